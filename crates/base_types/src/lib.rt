@@ -1,0 +1,14 @@
+//! Texts and lists that contracts see as lists, and copies of them: what the types of every other crate are made of.
+#![tactic(auto)]
+
+mod copying;
+mod list;
+mod memory;
+#[cfg(test)]
+mod tests;
+mod text;
+
+pub use copying::TryCopy;
+pub use list::{Bytes, List};
+pub use memory::Memory;
+pub use text::{Names, Text};
