@@ -1,6 +1,6 @@
 -- The items of a loop, or its first fault (Argo, "Loops"; field reference, `withItems`, `withParam`, `withSequence`).
 -- The order of faults and the limits are this project's own.
-use Rattle.std.specs.Prelude.{List, [], ◌∷◌, length, Bool, true, false, ◌&&◌, nat_le, Option, Some, None, Ok, Err, if◌then◌else◌, ℕ, ℤ, map}
+use Rattle.std.specs.Prelude.{List, [], ◌∷◌, length, Bool, true, false, ◌&&◌, nat_le, Option, Some, None, Ok, Err, if◌then◌else◌, ℤ, map}
 use Rattle.std.specs.List.{list_all}
 use Rattle.serde_json.specs.Data.{float, Data, null, boolean, number, string, array, object, Items, no_items, item, Members, no_members, member}
 use Rattle.serde_json.specs.Read.{read}

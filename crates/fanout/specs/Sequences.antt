@@ -1,6 +1,6 @@
 -- Rows of numbers, written in a format (Argo, "Loops"; field reference, `Sequence`).
 -- The grammar of numbers and formats and their limits are this project's own.
-use Rattle.std.specs.Prelude.{ℕ, zero, suc, ◌+◌, ◌-◌, ◌^◌, ℤ, pos, negsuc, ◌+ℤ◌, ◌-ℤ◌, neg_ℤ, int_lt, nat_abs, List, [], ◌∷◌, ◌++◌, length, drop, Bool, true, false, ◌&&◌, nat_lt, nat_le, ◌==◌, nat_eq, Option, Some, None, Ok, Err, if◌then◌else◌, codes, decimal, replicate, count_by, flat_map}
+use Rattle.std.specs.Prelude.{ℕ, zero, suc, ◌-◌, ◌^◌, ℤ, pos, negsuc, ◌+ℤ◌, ◌-ℤ◌, neg_ℤ, int_lt, nat_abs, List, [], ◌∷◌, ◌++◌, length, drop, Bool, true, false, ◌&&◌, nat_lt, nat_le, ◌==◌, nat_eq, Option, Some, None, Ok, Err, if◌then◌else◌, codes, decimal, replicate, count_by, flat_map}
 use Rattle.std.specs.List.{starts_with, list_all}
 use Rattle.std.specs.Char.{is_ascii_digit}
 use Rattle.std.specs.Str.Parse.{digits_value}

@@ -1,6 +1,6 @@
 -- Scopes, and what a text with tags says in a scope (Argo, "Workflow variables").
 -- That a tag without a value makes its node Error, and that there is one pass of substitution, is this project's own.
-use Rattle.std.specs.Prelude.{ℕ, List, [], ◌∷◌, ◌++◌, Bool, true, false, ◌||◌, Option, Some, None, Result, Ok, Err, if◌then◌else◌, bytes_eq, codes, nat_eq, map}
+use Rattle.std.specs.Prelude.{ℕ, List, [], ◌∷◌, ◌++◌, Bool, false, ◌||◌, Option, Some, None, Result, Ok, Err, if◌then◌else◌, bytes_eq, codes, nat_eq, map}
 use Rattle.std.specs.List.{starts_with, list_any}
 use Rattle.tree_types.specs.declared.node.Note.{Note}
 use Rattle.tree_types.specs.declared.node.Note.TheVariants.{Unresolved}

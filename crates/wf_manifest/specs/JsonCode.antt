@@ -1,5 +1,5 @@
 -- The code of JSON data, by which contracts tell two values apart.
-use Rattle.std.specs.Prelude.{◌≡◌, ℕ, zero, suc, Bool, true, false, ℤ, pos, negsuc, List, refl, Float}
+use Rattle.std.specs.Prelude.{◌≡◌, zero, suc, Bool, true, false, ℤ, pos, negsuc, refl, Float}
 use Rattle.std.proofs.Common.{ap}
 use base.Stored.{Gv, gnil, gnum, gcons, Coded}
 use lib.Ieee.{nan, inf, fin}

@@ -1,8 +1,8 @@
 //! Copies of the types of this crate.
 
 use crate::{
-    Argument, Backoff, Body, Call, ContinueOn, Dag, Hook, Input, Loop, Manifest, Memoize, OutputDecl, Policy, Retry,
-    Task, Template,
+    Argument, Backoff, Body, Call, ContinueOn, Dag, Hook, Input, Loop, Manifest, Memoize,
+    OutputDecl, Policy, Retry, Task, Template,
 };
 use base_types::{Memory, TryCopy};
 

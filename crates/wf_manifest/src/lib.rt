@@ -13,5 +13,6 @@ pub use calls::{
 pub use json::Json;
 pub use manifest::Manifest;
 pub use templates::{
-    Backoff, Body, Input, Inputs, Memoize, OutputDecl, OutputDecls, Policy, Retry, Template, Templates,
+    Backoff, Body, Input, Inputs, Memoize, OutputDecl, OutputDecls, Policy, Retry, Template,
+    Templates,
 };
