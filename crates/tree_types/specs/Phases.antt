@@ -1,5 +1,5 @@
 -- Phases: which are over, which are ends of a pod, and which of two is worse.
-use Rattle.std.specs.Prelude.{Bool, true, false, List, [], ◌∷◌}
+use Rattle.std.specs.Prelude.{ℕ, Bool, true, false, List, [], ◌∷◌, codes}
 use Rattle.tree_types.specs.declared.phase.Phase.{Phase}
 use Rattle.tree_types.specs.declared.phase.Phase.TheVariants.{Pending, Running, Succeeded, Skipped, Failed, Error, Omitted}
 
@@ -48,3 +48,13 @@ worst _ _ = Succeeded
 abbrev pub worst_of : List Phase → Phase
 worst_of [] = Succeeded
 worst_of (p ∷ ps) = worst p (worst_of ps)
+
+-- the word of a phase (field reference, NodeStatus)
+abbrev pub phase_text : Phase → List ℕ
+phase_text Pending = codes "Pending"
+phase_text Running = codes "Running"
+phase_text Succeeded = codes "Succeeded"
+phase_text Skipped = codes "Skipped"
+phase_text Failed = codes "Failed"
+phase_text Error = codes "Error"
+phase_text Omitted = codes "Omitted"
