@@ -1,1 +1,4 @@
+pub mod Numbers
+pub mod Readings
 mod Samples
+pub mod Waits
