@@ -1,3 +1,4 @@
+pub mod Grammar
 pub mod Numbers
 pub mod Readings
 mod Samples

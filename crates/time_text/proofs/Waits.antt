@@ -1,5 +1,5 @@
 -- How a wait grows from one attempt to the next.
-use Rattle.std.proofs.Common.{◌≡◌, ℕ, zero, suc, ◌+◌, ◌-◌, ◌*◌, ◌^◌, ◌<◌, ◌≤◌, ◌⊎◌, min, refl, arith, sym, ◌∙◌, ap, inl, inr, add-one, sub-one}
+use Rattle.std.proofs.Common.{◌≡◌, ℕ, zero, suc, ◌+◌, ◌-◌, ◌*◌, ◌^◌, ◌<◌, ◌≤◌, ◌⊎◌, min, refl, arith, sym, ◌∙◌, ap, inl, inr}
 use Rattle.std.proofs.Math.Nat.{mul-suc, mul_assoc, pow-suc, pow-zero, mul-zero, mul-one, zero-mul}
 use Rattle.std.proofs.lemmas.Nat.{pow-add}
 use Rattle.std.proofs.lemmas.Bool.{cases_lt}

@@ -46,7 +46,7 @@ pub record IsParts (t : List ℕ) (n : ℕ) : Type 0 where
   pub h : ℕ
   pub m : ℕ
   pub s : ℕ
-  pub whole : t ≡ hours ++ minutes ++ seconds
+  pub whole : t ≡ hours ++ (minutes ++ seconds)
   pub some : t ≢ []
   pub of_hours : IsPart (codes "h") hours h
   pub of_minutes : IsPart (codes "m") minutes m
@@ -56,6 +56,12 @@ pub record IsParts (t : List ℕ) (n : ℕ) : Type 0 where
 -- t is of the grammar and says n seconds
 abbrev pub IsDuration : List ℕ → ℕ → Type 0
 IsDuration t n = IsBareNumber t n ⊎ IsParts t n
+
+-- what a reading of t may answer: the seconds that t says, where they are not too many
+abbrev pub IsReading : List ℕ → Result ℕ DurationRefused → Type 0
+IsReading t (Ok n) = IsDuration t n × (n ≤ most_seconds)
+IsReading t (Err TooLong) = (n : ℕ) × IsDuration t n × (most_seconds < n)
+IsReading t (Err BadForm) = (n : ℕ) → ¬ IsDuration t n
 
 -- ---- the seconds that a text says
 

@@ -4,12 +4,12 @@ ghost use Rattle.std.specs.Prelude.{◌≡◌, ◌<◌, ◌^◌, [], ◌∷◌, 
 ghost use Rattle.std.specs.List.{list_all, prefix_len};
 ghost use Rattle.std.specs.Char.{is_ascii_digit};
 ghost use Rattle.std.specs.Str.Parse.{digits_value};
-ghost use Rattle.time_text.specs.Durations.{is_number, front_part, after_part, within_most, seconds_of_parts, duration_of};
+ghost use Rattle.time_text.specs.Durations.{is_number, front_part, after_part, within_most, seconds_of_parts, duration_of, IsReading};
 
 use thiserror::Error;
 
 /// The most seconds that a span may have: 365 days.
-pub const MOST_SECONDS: u64 = 31_536_000;
+pub(crate) const MOST_SECONDS: u64 = 31_536_000;
 
 const MOST_DIGITS: usize = 8;
 
@@ -29,9 +29,17 @@ pub enum DurationRefused {
 /// The seconds that a text says: 1 to 8 digits alone, or such numbers with `h`, `m` and `s`, each at most once, in this
 /// order, at least one of them.
 pub fn read_duration(text: &str) -> Result<u64, DurationRefused>
+    ensures meant { result ≡ duration_of text.now }
+
+    // Stated apart from the way of reading: an answer is the grammar's, and each text of the grammar is read.
+    ensures grammar { IsReading text.now result }
+{
+    read_seconds(text.as_bytes())
+}
+
+fn read_seconds(text: &[u8]) -> Result<u64, DurationRefused>
     ensures { result ≡ duration_of text.now }
 {
-    let text = text.as_bytes();
     if text.is_empty() {
         return Err(DurationRefused::BadForm);
     }

@@ -3,6 +3,8 @@
 
 mod duration;
 mod instant;
+#[cfg(test)]
+mod tests;
 mod wait;
 
 pub use duration::{DurationRefused, read_duration};

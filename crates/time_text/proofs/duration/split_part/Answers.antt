@@ -2,7 +2,6 @@ use Rattle.std.proofs.Common.{rules, arith, length}
 use Rattle.std.specs.Char.{is_ascii_digit}
 use Rattle.std.proofs.lemmas.List.{take_rest}
 use Rattle.std.proofs.lemmas.List.Sums.{prefix_len-le-length}
-use Rattle.std.proofs.lemmas.Grind.{common_steps}
 use Rattle.time_text.proofs.duration.split_part.Goals as goal
 
 pub split_at-requires : goal.split_at-requires

@@ -1,4 +1,4 @@
-use Rattle.std.proofs.Common.{◌≡◌, ◌⊎◌, min, rules, arith, inl, inr, sym, ◌∙◌}
+use Rattle.std.proofs.Common.{◌≡◌, ◌⊎◌, min, arith, inl, inr, sym, ◌∙◌}
 use Rattle.time_text.specs.Durations.{most_seconds}
 use Rattle.time_text.proofs.Waits.{delay_by_zero, delay_unchanged}
 use Rattle.time_text.proofs.wait.backoff_delay.Goals as goal

@@ -1,4 +1,4 @@
-use Rattle.std.proofs.Common.{◌≡◌, ◌≤◌, ◌-◌}
+use Rattle.std.proofs.Common.{◌≡◌}
 use Rattle.time_text.specs.Durations.{delay}
 use Rattle.time_text.proofs.wait.grown.Given as goal
 
