@@ -1,7 +1,7 @@
 -- Spans of time in a document. Argo's field reference gives them as texts, as `backoff.duration` and `suspend.duration`;
 -- their grammar, the most that a span may be and the cut of a delay are this project's own.
 use Rattle.std.specs.Prelude.{◌≡◌, ◌≢◌, ℕ, ◌+◌, ◌-◌, ◌*◌, ◌^◌, ◌<◌, ◌≤◌, min, List, [], ◌∷◌, ◌++◌, length, drop}
-use Rattle.std.specs.Prelude.{Bool, ◌&&◌, nat_lt, nat_le, nat_eq, IsTrue, ◌⊎◌, Result, Ok, Err, if◌then◌else◌, codes}
+use Rattle.std.specs.Prelude.{Bool, ◌&&◌, nat_lt, nat_le, nat_eq, ◌==◌, IsTrue, ◌⊎◌, Result, Ok, Err, if◌then◌else◌, codes}
 use Rattle.std.specs.List.{starts_with, take_while, prefix_len, list_all}
 use Rattle.std.specs.Char.{is_ascii_digit}
 use Rattle.std.specs.Str.Parse.{digits_value}
@@ -46,7 +46,7 @@ pub record IsParts (t : List ℕ) (n : ℕ) : Type 0 where
   pub h : ℕ
   pub m : ℕ
   pub s : ℕ
-  pub whole : t ≡ hours ++ minutes ++ seconds
+  pub whole : t ≡ hours ++ (minutes ++ seconds)
   pub some : t ≢ []
   pub of_hours : IsPart (codes "h") hours h
   pub of_minutes : IsPart (codes "m") minutes m
@@ -56,6 +56,12 @@ pub record IsParts (t : List ℕ) (n : ℕ) : Type 0 where
 -- t is of the grammar and says n seconds
 abbrev pub IsDuration : List ℕ → ℕ → Type 0
 IsDuration t n = IsBareNumber t n ⊎ IsParts t n
+
+-- what a reading of t may answer: the seconds that t says, where they are not too many
+abbrev pub IsReading : List ℕ → Result ℕ DurationRefused → Type 0
+IsReading t (Ok n) = IsDuration t n × (n ≤ most_seconds)
+IsReading t (Err TooLong) = (n : ℕ) × IsDuration t n × (most_seconds < n)
+IsReading t (Err BadForm) = (n : ℕ) → ¬ IsDuration t n
 
 -- ---- the seconds that a text says
 
@@ -76,15 +82,14 @@ front_part unit t = if begins_with_part unit t then digits_value 10 (front_digit
 
 -- what follows it
 abbrev pub after_part : List ℕ → List ℕ → List ℕ
-after_part unit t = if begins_with_part unit t then drop 1 (after_digits t) else t
+after_part unit t = if begins_with_part unit t then drop (length unit) (after_digits t) else t
 
 abbrev pub within_most : ℕ → Result ℕ DurationRefused
 within_most n = if nat_le n most_seconds then Ok n else Err TooLong
 
--- the seconds of three parts and of what follows them
+-- the seconds of three parts, where nothing follows them
 abbrev pub sum_of_parts : ℕ → ℕ → ℕ → List ℕ → Result ℕ DurationRefused
-sum_of_parts h m s [] = within_most (3600 * h + 60 * m + s)
-sum_of_parts h m s (b ∷ bs) = Err BadForm
+sum_of_parts h m s rest = if length rest == 0 then within_most (3600 * h + 60 * m + s) else Err BadForm
 
 abbrev pub seconds_of_parts : List ℕ → Result ℕ DurationRefused
 seconds_of_parts t =

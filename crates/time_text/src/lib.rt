@@ -3,6 +3,10 @@
 
 mod duration;
 mod instant;
+#[cfg(test)]
+mod tests;
+mod wait;
 
-pub use duration::DurationRefused;
+pub use duration::{DurationRefused, read_duration};
 pub use instant::{TimeRefused, read_created};
+pub use wait::backoff_delay;
