@@ -1,3 +1,5 @@
 pub mod Expression
 pub mod Truth
 pub mod View
+pub mod Grammar
+pub mod Reading

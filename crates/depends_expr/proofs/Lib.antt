@@ -1,0 +1,5 @@
+mod Rows
+pub mod Bytes
+pub mod Taken
+pub mod Held
+pub mod Fronts
