@@ -5,7 +5,7 @@ use Rattle.std.specs.List.{list_any}
 use Rattle.std.proofs.lemmas.Bool.{false≢true, and_parts, or_cases, cond_both, eqb-true}
 use Rattle.depends_expr.specs.Expression.{Word, Expression, bare, has, negation, both, either}
 use Rattle.depends_expr.specs.Grammar.{Text, is_name, spelling, Spaces, no_space, Not, result_of, IsDepends, IsStart, StartEndsAt, IsBadAt}
-use Rattle.depends_expr.specs.Reading.{State, start, wants, in_name, in_result, done, half_and, half_or, Around, Level, operand, negate, restored, times, plus, step, read, then_read, place, then_place, words, behind, is_found, begins_word}
+use Rattle.depends_expr.specs.Reading.{State, start, wants, in_name, in_result, done, half_and, half_or, Around, Level, operand, negate, joined, times, plus, step, read, then_read, place, then_place, words, behind, is_found, begins_word}
 use Rattle.depends_expr.proofs.Taken.{taken}
 use Rattle.depends_expr.proofs.Held.{Holds, At, step_holds, read_holds, start_holds, operand_holds, meant, none_some, some_same}
 
@@ -14,7 +14,7 @@ use Rattle.depends_expr.proofs.Held.{Holds, At, step_holds, read_holds, start_ho
 closed : (outer : List Level) (e : Expression) (sum : Option Expression) (room : ℕ) → (q : Text) × (x : Expression) × (read (done e sum outer room) q ≡ Some x)
 closed [] e sum room = ([], plus sum e, refl)
 closed (l ∷ ls) e sum room =
-    let rest = closed ls (times l.product (negate l.nots (plus sum e))) l.sum (restored l.nots (suc room)) in
+    let rest = closed ls (joined (plus sum e) l) l.sum l.begun in
     (41 ∷ rest.0, rest.1, rest.2)
 
 -- what completes a state, whatever text has led to it
@@ -24,8 +24,8 @@ Completes s q = (T : Text) → Holds T s q → (e : Expression) × IsDepends T e
 by_reading : (s : State) (q : Text) (e : Expression) → read s q ≡ Some e → Completes s q
 by_reading s q e p T h = (e, read_holds T s q e p h)
 
-operand_closed : (e : Expression) (a : Around) → (q : Text) × (x : Expression) × (read (operand e a.level a.outer a.room) q ≡ Some x)
-operand_closed e a = closed a.outer (times a.level.product (negate a.level.nots e)) a.level.sum (restored a.level.nots a.room)
+operand_closed : (e : Expression) (a : Around) → (q : Text) × (x : Expression) × (read (operand e a.level a.outer) q ≡ Some x)
+operand_closed e a = closed a.outer (joined e a.level) a.level.sum a.level.begun
 
 behind_is : (p t r : Text) → behind p t ≡ Some r → t ≡ p ++ r
 behind_is [] t r e = some_same e
@@ -51,16 +51,16 @@ result_completes name part a w r p =
     let rest = operand_closed (has name w) a in
     (r ++ rest.0, λ T h.
         let whole : part ++ (r ++ rest.0) ≡ spelling w ++ rest.0 = sym (append_assoc part r rest.0) ∙ ap (λ x. x ++ rest.0) (sym p) in
-        let there = subst (λ x. At T a.level a.outer a.room (name ++ (46 ∷ x))) whole h.0 in
-        (rest.1, read_holds T _ rest.0 rest.1 rest.2 (operand_holds T (has name w) a.level a.outer a.room _ rest.0 there (result_of name w h.1 no_space))))
+        let there = subst (λ x. At T a.level a.outer (name ++ (46 ∷ x))) whole h.0 in
+        (rest.1, read_holds T _ rest.0 rest.1 rest.2 (operand_holds T (has name w) a.level a.outer _ rest.0 there (result_of name w h.1 no_space))))
 
 completed : (s : State) (T r : Text) → Holds T s r → (q : Text) × Completes s q
 completed (wants a) T r h = let rest = operand_closed (bare (65 ∷ [])) a in (65 ∷ (32 ∷ rest.0), by_reading (wants a) (65 ∷ (32 ∷ rest.0)) rest.1 rest.2)
 completed (in_name name a) T r h = let rest = operand_closed (bare name) a in (32 ∷ rest.0, by_reading (in_name name a) (32 ∷ rest.0) rest.1 rest.2)
 completed (in_result name part a) T r h = let word = begun_word part words h.2 in result_completes name part a word.0 word.1 word.2
 completed (done e sum outer room) T r h = let rest = closed outer e sum room in (rest.0, by_reading (done e sum outer room) rest.0 rest.1 rest.2)
-completed (half_and e sum outer room) T r h = let rest = closed outer (both e (bare (65 ∷ []))) sum room in (38 ∷ (65 ∷ (32 ∷ rest.0)), by_reading (half_and e sum outer room) (38 ∷ (65 ∷ (32 ∷ rest.0))) rest.1 rest.2)
-completed (half_or e sum outer room) T r h = let rest = closed outer (bare (65 ∷ [])) (Some (plus sum e)) room in (124 ∷ (65 ∷ (32 ∷ rest.0)), by_reading (half_or e sum outer room) (124 ∷ (65 ∷ (32 ∷ rest.0))) rest.1 rest.2)
+completed (half_and e sum outer room) T r h = let rest = operand_closed (bare (65 ∷ [])) (record { level = record { sum = sum; product = Some e; begun = room; room = room }; outer = outer }) in (38 ∷ (65 ∷ (32 ∷ rest.0)), by_reading (half_and e sum outer room) (38 ∷ (65 ∷ (32 ∷ rest.0))) rest.1 rest.2)
+completed (half_or e sum outer room) T r h = let rest = operand_closed (bare (65 ∷ [])) (record { level = record { sum = Some (plus sum e); product = None; begun = room; room = room }; outer = outer }) in (124 ∷ (65 ∷ (32 ∷ rest.0)), by_reading (half_or e sum outer room) (124 ∷ (65 ∷ (32 ∷ rest.0))) rest.1 rest.2)
 
 -- ---- fronts that lead to a state
 

@@ -1,5 +1,5 @@
 -- The reading of a `depends`, byte by byte: what is open after a text, or that no text of the grammar begins so.
-use Rattle.std.specs.Prelude.{ℕ, zero, suc, List, [], ◌∷◌, ◌++◌, length, Bool, true, false, ◌||◌, ◌==◌, nat_lt, Option, Some, None, Result, Ok, Err, if◌then◌else◌, bytes_eq, nat_eq}
+use Rattle.std.specs.Prelude.{ℕ, zero, suc, List, [], ◌∷◌, ◌++◌, ◌-◌, length, Bool, true, false, ◌||◌, ◌==◌, nat_lt, Option, Some, None, Result, Ok, Err, if◌then◌else◌, bytes_eq, nat_eq}
 use Rattle.std.specs.List.{list_any, starts_with}
 use Rattle.depends_expr.specs.Expression.{Word, succeeded, failed, errored, skipped, omitted, daemoned, any_succeeded, all_failed, Expression, bare, has, negation, both, either}
 use Rattle.depends_expr.specs.Grammar.{Text, is_space, is_name_byte, spelling}
@@ -48,17 +48,18 @@ begins_word t = list_any (λ w. is_found (behind t (spelling w))) words
 
 -- ---- what is open at a place
 
--- inside a parenthesis: what stands before a pending `||`, what before a pending `&&`, and how many `!`
+-- inside a parenthesis: what stands before a pending `||`, what before a pending `&&`, how many `!` and `(` could be
+-- opened at the level's operand, and how many can be now, behind the `!` of the operand
 pub record Level : Type 0 where
   pub sum : Option Expression
   pub product : Option Expression
-  pub nots : ℕ
+  pub begun : ℕ
+  pub room : ℕ
 
--- the level at the place, those around it, and how many `!` and `(` may still be opened
+-- the level at the place, and those around it
 pub record Around : Type 0 where
   pub level : Level
   pub outer : List Level
-  pub room : ℕ
 
 pub data State : Type 0 where
   wants : Around → State                                                   -- an operand is to come
@@ -68,21 +69,17 @@ pub data State : Type 0 where
   half_and : Expression → Option Expression → List Level → ℕ → State       -- behind one `&`
   half_or : Expression → Option Expression → List Level → ℕ → State        -- behind one `|`
 
-abbrev pub fresh : Level
-fresh = record { sum = None; product = None; nots = 0 }
+abbrev pub fresh : ℕ → Level
+fresh room = record { sum = None; product = None; begun = room; room = room }
 
 abbrev pub start : State
-start = wants (record { level = fresh; outer = []; room = 64 })
+start = wants (record { level = fresh 64; outer = [] })
 
 -- ---- operands
 
 abbrev pub negate : ℕ → Expression → Expression
 negate zero e = e
 negate (suc k) e = negate k (negation e)
-
-abbrev pub restored : ℕ → ℕ → ℕ
-restored zero n = n
-restored (suc k) n = restored k (suc n)
 
 abbrev pub times : Option Expression → Expression → Expression
 times None e = e
@@ -93,28 +90,31 @@ plus None e = e
 plus (Some d) e = either d e
 
 -- behind a whole operand, its `!` are closed, and a pending `&&` takes it
-abbrev pub operand : Expression → Level → List Level → ℕ → State
-operand e level outer room = done (times level.product (negate level.nots e)) level.sum outer (restored level.nots room)
+abbrev pub joined : Expression → Level → Expression
+joined e level = times level.product (negate (level.begun - level.room) e)
+
+abbrev pub operand : Expression → Level → List Level → State
+operand e level outer = done (joined e level) level.sum outer level.begun
 
 -- ---- one byte more
 
-abbrev pub add_not : Level → List Level → ℕ → Option State
-add_not level outer zero = None
-add_not level outer (suc room) = Some (wants (record { level = record { sum = level.sum; product = level.product; nots = suc level.nots }; outer = outer; room = room }))
+abbrev pub add_not : ℕ → Level → List Level → Option State
+add_not zero level outer = None
+add_not (suc room) level outer = Some (wants (record { level = record { sum = level.sum; product = level.product; begun = level.begun; room = room }; outer = outer }))
 
-abbrev pub open_level : Level → List Level → ℕ → Option State
-open_level level outer zero = None
-open_level level outer (suc room) = Some (wants (record { level = fresh; outer = level ∷ outer; room = room }))
+abbrev pub open_level : ℕ → Level → List Level → Option State
+open_level zero level outer = None
+open_level (suc room) level outer = Some (wants (record { level = fresh room; outer = level ∷ outer }))
 
-abbrev pub close_level : Expression → Option Expression → List Level → ℕ → Option State
-close_level e sum [] room = None
-close_level e sum (level ∷ outer) room = Some (operand (plus sum e) level outer (suc room))
+abbrev pub close_level : Expression → Option Expression → List Level → Option State
+close_level e sum [] = None
+close_level e sum (level ∷ outer) = Some (operand (plus sum e) level outer)
 
 abbrev pub on_wants : Kind → ℕ → Around → Option State
 on_wants letter b a = Some (in_name (b ∷ []) a)
 on_wants blank b a = Some (wants a)
-on_wants bang b a = add_not a.level a.outer a.room
-on_wants opening b a = open_level a.level a.outer a.room
+on_wants bang b a = add_not a.level.room a.level a.outer
+on_wants opening b a = open_level a.level.room a.level a.outer
 on_wants closing b a = None
 on_wants ampersand b a = None
 on_wants bar b a = None
@@ -126,14 +126,14 @@ on_done letter e sum outer room = None
 on_done blank e sum outer room = Some (done e sum outer room)
 on_done bang e sum outer room = None
 on_done opening e sum outer room = None
-on_done closing e sum outer room = close_level e sum outer room
+on_done closing e sum outer room = close_level e sum outer
 on_done ampersand e sum outer room = Some (half_and e sum outer room)
 on_done bar e sum outer room = Some (half_or e sum outer room)
 on_done dot e sum outer room = None
 on_done other e sum outer room = None
 
-abbrev pub on_operand : Kind → Expression → Level → List Level → ℕ → Option State
-on_operand k e level outer room = on_done k (times level.product (negate level.nots e)) level.sum outer (restored level.nots room)
+abbrev pub on_operand : Kind → Expression → Level → List Level → Option State
+on_operand k e level outer = on_done k (joined e level) level.sum outer level.begun
 
 abbrev pub longer_name : Text → ℕ → Around → Option State
 longer_name name b a = if nat_lt (length name) 128 then Some (in_name (name ++ b ∷ []) a) else None
@@ -141,12 +141,12 @@ longer_name name b a = if nat_lt (length name) 128 then Some (in_name (name ++ b
 abbrev pub on_name : Kind → ℕ → Text → Around → Option State
 on_name letter b name a = longer_name name b a
 on_name dot b name a = Some (in_result name [] a)
-on_name blank b name a = on_operand blank (bare name) a.level a.outer a.room
+on_name blank b name a = on_operand blank (bare name) a.level a.outer
 on_name bang b name a = None
 on_name opening b name a = None
-on_name closing b name a = on_operand closing (bare name) a.level a.outer a.room
-on_name ampersand b name a = on_operand ampersand (bare name) a.level a.outer a.room
-on_name bar b name a = on_operand bar (bare name) a.level a.outer a.room
+on_name closing b name a = on_operand closing (bare name) a.level a.outer
+on_name ampersand b name a = on_operand ampersand (bare name) a.level a.outer
+on_name bar b name a = on_operand bar (bare name) a.level a.outer
 on_name other b name a = None
 
 abbrev pub on_part : Bool → Text → Text → Around → Option State
@@ -155,7 +155,7 @@ on_part false name part a = None
 
 abbrev pub on_result : Option Word → Text → Text → Around → Option State
 on_result None name part a = on_part (begins_word part) name part a
-on_result (Some word) name part a = Some (operand (has name word) a.level a.outer a.room)
+on_result (Some word) name part a = Some (operand (has name word) a.level a.outer)
 
 -- what a byte makes of a state: None where no text of the grammar goes on so
 abbrev pub step : State → ℕ → Option State
@@ -163,8 +163,8 @@ step (wants a) b = on_wants (kind b) b a
 step (in_name name a) b = on_name (kind b) b name a
 step (in_result name part a) b = on_result (spelled (part ++ b ∷ []) words) name (part ++ b ∷ []) a
 step (done e sum outer room) b = on_done (kind b) e sum outer room
-step (half_and e sum outer room) b = if b == 38 then Some (wants (record { level = record { sum = sum; product = Some e; nots = 0 }; outer = outer; room = room })) else None
-step (half_or e sum outer room) b = if b == 124 then Some (wants (record { level = record { sum = Some (plus sum e); product = None; nots = 0 }; outer = outer; room = room })) else None
+step (half_and e sum outer room) b = if b == 38 then Some (wants (record { level = record { sum = sum; product = Some e; begun = room; room = room }; outer = outer })) else None
+step (half_or e sum outer room) b = if b == 124 then Some (wants (record { level = record { sum = Some (plus sum e); product = None; begun = room; room = room }; outer = outer })) else None
 
 -- ---- a whole text
 
@@ -175,7 +175,7 @@ whole e sum (level ∷ outer) = None
 -- the expression of a text that ends in this state
 abbrev pub final : State → Option Expression
 final (wants a) = None
-final (in_name name a) = whole (times a.level.product (negate a.level.nots (bare name))) a.level.sum a.outer
+final (in_name name a) = whole (joined (bare name) a.level) a.level.sum a.outer
 final (in_result name part a) = None
 final (done e sum outer room) = whole e sum outer
 final (half_and e sum outer room) = None
