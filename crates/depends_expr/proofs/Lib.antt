@@ -3,3 +3,4 @@ pub mod Bytes
 pub mod Taken
 pub mod Held
 pub mod Fronts
+pub mod Postfixes
