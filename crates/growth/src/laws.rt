@@ -2,6 +2,7 @@
 
 ghost use Rattle.growth.specs.Growth.{GrowsByAnswers, Stays, AsksOnlySaves};
 ghost use Rattle.growth.specs.Nodes.{OnePath};
+ghost use Rattle.growth.specs.Ticks.{TicksDoNotMatter, PlainAsPlanned};
 ghost use Rattle.growth.specs.Writes.{Grows, AskedIsNew, IsOnce, IsClosed, ClosesOnce, BegunStands, BegunAreNodes};
 
 /// Under answers that say more, and by which only tasks have newly begun that might begin, each node of a tree has a later
@@ -58,4 +59,14 @@ pub fn stays()
 /// A workflow that is over asks for nothing but saves.
 pub fn asks_only_saves()
     ensures { AsksOnlySaves }
+{}
+
+/// The tree of a plain workflow that is over is the same by any answers that agree on its pods but for their ticks.
+pub fn ticks_do_not_matter()
+    ensures { TicksDoNotMatter }
+{}
+
+/// The tree of a plain workflow that is over and went as planned is the planned one.
+pub fn plain_as_planned()
+    ensures { PlainAsPlanned }
 {}
