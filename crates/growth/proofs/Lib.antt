@@ -14,3 +14,4 @@ pub mod Journals
 pub mod GrowingJournals
 pub mod Counting
 pub mod Ticks
+pub mod Names

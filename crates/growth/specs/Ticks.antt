@@ -1,5 +1,5 @@
 -- What a plain manifest means does not depend on ticks.
-use Rattle.std.specs.Prelude.{◌≡◌, ℕ, List, true, Option, Some, None, option_map}
+use Rattle.std.specs.Prelude.{◌≡◌, true, Some, option_map}
 use Rattle.tree_types.specs.declared.node.Kind.TheVariants as kind
 use Rattle.tree_types.specs.declared.node.Note.{Note}
 use Rattle.tree_types.specs.declared.node.Note.TheVariants as note
