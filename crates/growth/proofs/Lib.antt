@@ -15,3 +15,4 @@ pub mod GrowingJournals
 pub mod Counting
 pub mod Ticks
 pub mod Names
+pub mod Sample
