@@ -45,6 +45,10 @@ not_empty o = o
 abbrev pub written_text : List ℕ → Kind (Option (List ℕ))
 written_text name at d = optional text name at d >>= λ t. Ok (not_empty t)
 
+-- a text, and t where the field is absent or an empty text
+abbrev pub written_or : List ℕ → List ℕ → Kind (List ℕ)
+written_or t name at d = written_text name at d >>= else_ t
+
 abbrev pub optional_bad : {A : Type 0} → (List ℕ → Option A) → Path → Option (List ℕ) → Read (Option A)
 optional_bad grammar path None = Ok None
 optional_bad grammar path (Some t) = some (or_bad path (grammar t))

@@ -21,7 +21,7 @@ pub fn optional<T: Readable>(
     name: &str,
     at: &FieldPath,
     around: &T::Around,
-) -> Result<Option<T>, KindRefused>
+) -> Result<Option<T::Made>, KindRefused>
     ensures { Reads result (optional (T.kind around.now) name.now at.now (view object.now)) }
 {
     match object.get(name) {
@@ -37,7 +37,7 @@ pub fn required<T: Readable>(
     name: &str,
     at: &FieldPath,
     around: &T::Around,
-) -> Result<T, KindRefused>
+) -> Result<T::Made, KindRefused>
     ensures { Reads result (required (T.kind around.now) name.now at.now (view object.now)) }
 {
     let path = at.field(name)?;
@@ -58,12 +58,12 @@ pub fn optional_list<T: Readable>(
     most: usize,
     at: &FieldPath,
     around: &T::Around,
-) -> Result<Option<List<T>>, KindRefused>
+) -> Result<Option<List<T::Made>>, KindRefused>
     ensures { Reads result (optional (list_of most (T.kind around.now)) name.now at.now (view object.now)) }
 {
     match object.get(name) {
         None | Some(Value::Null) => Ok(None),
-        Some(value) => Ok(Some(list_of(alloc, value, most, &at.field(name)?, around)?)),
+        Some(value) => Ok(Some(list_of::<T>(alloc, value, most, &at.field(name)?, around)?)),
     }
 }
 
@@ -75,12 +75,12 @@ pub fn list_or_empty<T: Readable>(
     most: usize,
     at: &FieldPath,
     around: &T::Around,
-) -> Result<List<T>, KindRefused>
+) -> Result<List<T::Made>, KindRefused>
     ensures { Reads result (default_list most (T.kind around.now) name.now at.now (view object.now)) }
 {
     match object.get(name) {
         None | Some(Value::Null) => Ok(List::new(alloc)),
-        Some(value) => list_of(alloc, value, most, &at.field(name)?, around),
+        Some(value) => list_of::<T>(alloc, value, most, &at.field(name)?, around),
     }
 }
 
@@ -92,7 +92,7 @@ pub fn required_list<T: Readable>(
     most: usize,
     at: &FieldPath,
     around: &T::Around,
-) -> Result<List<T>, KindRefused>
+) -> Result<List<T::Made>, KindRefused>
     ensures { Reads result (required (list_of most (T.kind around.now)) name.now at.now (view object.now)) }
 {
     let path = at.field(name)?;
@@ -101,7 +101,7 @@ pub fn required_list<T: Readable>(
             rule: MISSING,
             field: path,
         }),
-        Some(value) => list_of(alloc, value, most, &path, around),
+        Some(value) => list_of::<T>(alloc, value, most, &path, around),
     }
 }
 
@@ -112,12 +112,12 @@ pub fn all_or_empty<T: Readable>(
     name: &str,
     at: &FieldPath,
     around: &T::Around,
-) -> Result<List<T>, KindRefused>
+) -> Result<List<T::Made>, KindRefused>
     ensures { Reads result (default [] (all_of (T.kind around.now)) name.now at.now (view object.now)) }
 {
     match object.get(name) {
         None | Some(Value::Null) => Ok(List::new(alloc)),
-        Some(value) => all_of(alloc, value, &at.field(name)?, around),
+        Some(value) => all_of::<T>(alloc, value, &at.field(name)?, around),
     }
 }
 

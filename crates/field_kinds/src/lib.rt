@@ -29,6 +29,6 @@ pub use rules::{BAD_TEXT, MISSING, NOT_WORKFLOW, TOO_MANY, UNSUPPORTED, WRONG_KI
 pub use texts::{
     optional_any_text, optional_by, optional_text, optional_text_by, required_any_text,
     required_by, required_text, required_text_by, text_by_if, text_if, written_text,
-    written_text_by,
+    written_text_by, written_text_or,
 };
 pub use values::{all_of, list_of, members, needs_list, needs_object};

@@ -21,11 +21,11 @@ pub fn map_of<T: Keyed>(
     value: &Value,
     at: &FieldPath,
     around: &T::Around,
-) -> Result<List<T>, KindRefused>
+) -> Result<List<T::Made>, KindRefused>
     ensures { Reads result (map_of (T.entry around.now) at.now (view value.now)) }
 {
     match value {
-        Value::Object(map) => entries(alloc, map, at, around),
+        Value::Object(map) => entries::<T>(alloc, map, at, around),
         _ => Err(refused_at(WRONG_KIND, at)?),
     }
 }
@@ -35,12 +35,12 @@ fn entries<T: Keyed>(
     map: &Map<String, Value>,
     at: &FieldPath,
     around: &T::Around,
-) -> Result<List<T>, KindRefused>
+) -> Result<List<T::Made>, KindRefused>
     ensures { Reads result (entries (T.entry around.now) at.now (members_view map.now.entries)) }
 {
     let mut out = List::new(alloc);
     for (key, value) in map.iter() {
-        if let Some(entry) = present_entry(alloc, key.as_str(), value, at, around)? {
+        if let Some(entry) = present_entry::<T>(alloc, key.as_str(), value, at, around)? {
             out.push(entry)?;
         }
     }
@@ -53,7 +53,7 @@ fn present_entry<T: Keyed>(
     value: &Value,
     at: &FieldPath,
     around: &T::Around,
-) -> Result<Option<T>, KindRefused>
+) -> Result<Option<T::Made>, KindRefused>
     ensures { Reads result (present (T.entry around.now key.now) (field_of at.now key.now) (Some (view value.now))) }
 {
     match value {

@@ -1,6 +1,6 @@
 //! Numbers and truth values.
 
-ghost use Rattle.std.specs.Prelude.{◌≡◌};
+ghost use Rattle.std.specs.Prelude.{◌≡◌, ◌≤◌, ◌≤ℤ◌, IfOk, IfSome};
 ghost use Rattle.serde_json.specs.View.{view};
 ghost use Rattle.field_kinds.specs.Refusing.{Reads};
 ghost use Rattle.field_kinds.specs.Kinds.{flag, whole_in, number_in, in_range, counted_in};
@@ -32,7 +32,8 @@ pub fn optional_whole(
     high: i64,
     at: &FieldPath,
 ) -> Result<Option<i64>, KindRefused>
-    ensures { Reads result (optional (whole_in low high) name.now at.now (view object.now)) }
+    ensures read { Reads result (optional (whole_in low high) name.now at.now (view object.now)) }
+    ensures within { IfOk result (λ taken. IfSome taken (λ whole. (low ≤ℤ whole) × (whole ≤ℤ high))) }
 {
     match take_whole(object, name, at)? {
         None => Ok(None),
@@ -44,7 +45,8 @@ pub fn optional_whole(
 }
 
 fn in_range(low: i64, high: i64, whole: i64) -> Option<i64>
-    ensures { result ≡ in_range low high whole }
+    ensures value { result ≡ in_range low high whole }
+    ensures within { IfSome result (λ taken. (low ≤ℤ taken) × (taken ≤ℤ high)) }
 {
     if whole < low || high < whole {
         None
@@ -62,7 +64,9 @@ pub fn whole_or(
     otherwise: i64,
     at: &FieldPath,
 ) -> Result<i64, KindRefused>
-    ensures { Reads result (default otherwise (whole_in low high) name.now at.now (view object.now)) }
+    requires { (low ≤ℤ otherwise) × (otherwise ≤ℤ high) }
+    ensures read { Reads result (default otherwise (whole_in low high) name.now at.now (view object.now)) }
+    ensures within { IfOk result (λ whole. (low ≤ℤ whole) × (whole ≤ℤ high)) }
 {
     Ok(optional_whole(object, name, low, high, at)?.unwrap_or(otherwise))
 }
@@ -75,7 +79,8 @@ pub fn optional_number(
     high: u64,
     at: &FieldPath,
 ) -> Result<Option<u64>, KindRefused>
-    ensures { Reads result (optional (number_in low high) name.now at.now (view object.now)) }
+    ensures read { Reads result (optional (number_in low high) name.now at.now (view object.now)) }
+    ensures within { IfOk result (λ taken. IfSome taken (λ number. (low ≤ number) × (number ≤ high))) }
 {
     match take_whole(object, name, at)? {
         None => Ok(None),
@@ -87,7 +92,8 @@ pub fn optional_number(
 }
 
 fn counted_in(low: u64, high: u64, whole: i64) -> Option<u64>
-    ensures { result ≡ counted_in low high whole }
+    ensures value { result ≡ counted_in low high whole }
+    ensures within { IfSome result (λ number. (low ≤ number) × (number ≤ high)) }
 {
     let number = u64::try_from(whole).ok()?;
     if number < low || high < number {
@@ -106,7 +112,9 @@ pub fn number_or(
     otherwise: u64,
     at: &FieldPath,
 ) -> Result<u64, KindRefused>
-    ensures { Reads result (default otherwise (number_in low high) name.now at.now (view object.now)) }
+    requires { (low ≤ otherwise) × (otherwise ≤ high) }
+    ensures read { Reads result (default otherwise (number_in low high) name.now at.now (view object.now)) }
+    ensures within { IfOk result (λ number. (low ≤ number) × (number ≤ high)) }
 {
     Ok(optional_number(object, name, low, high, at)?.unwrap_or(otherwise))
 }
@@ -119,7 +127,8 @@ pub fn required_number(
     high: u64,
     at: &FieldPath,
 ) -> Result<u64, KindRefused>
-    ensures { Reads result (required (number_in low high) name.now at.now (view object.now)) }
+    ensures read { Reads result (required (number_in low high) name.now at.now (view object.now)) }
+    ensures within { IfOk result (λ number. (low ≤ number) × (number ≤ high)) }
 {
     match optional_number(object, name, low, high, at)? {
         Some(number) => Ok(number),

@@ -15,13 +15,17 @@ use json_fields::FieldPath;
 use serde_json::Value;
 use std::alloc::Global;
 
-/// What is read from a value.
-pub trait Readable: Sized + Drop {
+/// A way to read a value. Mostly it is the type that is read; a type of its own stands for a second way to read a type,
+/// and for a way to read one of another crate.
+pub trait Readable {
+    /// What is read, mostly `Self`.
+    type Made: Drop;
+
     /// What must be known of the surroundings, `()` where that is nothing.
     type Around;
 
     /// What a value at a path reads as.
-    ghost kind: { Self.Around → Seq ℕ → Data → Read Self };
+    ghost kind: { Self.Around → Seq ℕ → Data → Read Self.Made };
 
     /// Reads the value at a path.
     fn read(
@@ -29,17 +33,20 @@ pub trait Readable: Sized + Drop {
         value: &Value,
         at: &FieldPath,
         around: &Self::Around,
-    ) -> Result<Self, KindRefused>
+    ) -> Result<Self::Made, KindRefused>
         ensures { Reads result (kind around.now at.now (view value.now)) };
 }
 
-/// What is read from a member of a map: from its key and its value.
-pub trait Keyed: Sized + Drop {
+/// A way to read a member of a map: its key and its value.
+pub trait Keyed {
+    /// What is read.
+    type Made: Drop;
+
     /// What must be known of the surroundings, `()` where that is nothing.
     type Around;
 
     /// What a value under a key reads as, at the path of the value.
-    ghost entry: { Self.Around → Seq ℕ → Seq ℕ → Data → Read Self };
+    ghost entry: { Self.Around → Seq ℕ → Seq ℕ → Data → Read Self.Made };
 
     /// Reads the value at a path under a key.
     fn read_entry(
@@ -48,7 +55,7 @@ pub trait Keyed: Sized + Drop {
         value: &Value,
         at: &FieldPath,
         around: &Self::Around,
-    ) -> Result<Self, KindRefused>
+    ) -> Result<Self::Made, KindRefused>
         ensures { Reads result (entry around.now key.now at.now (view value.now)) };
 }
 
@@ -66,6 +73,8 @@ pub trait Grammar {
 }
 
 impl Readable for Text {
+    type Made = Text;
+
     type Around = ();
 
     ghost kind = { λ _. text };
@@ -78,7 +87,10 @@ impl Readable for Text {
     }
 }
 
+/// A list of any length.
 impl<T: Readable> Readable for List<T> {
+    type Made = List<T::Made>;
+
     type Around = T::Around;
 
     ghost kind = { λ around. all_of (T.kind around) };
@@ -88,7 +100,7 @@ impl<T: Readable> Readable for List<T> {
         value: &Value,
         at: &FieldPath,
         around: &T::Around,
-    ) -> Result<List<T>, KindRefused> {
-        all_of(alloc, value, at, around)
+    ) -> Result<List<T::Made>, KindRefused> {
+        all_of::<T>(alloc, value, at, around)
     }
 }

@@ -4,7 +4,7 @@ ghost use Rattle.std.specs.Prelude.{◌≡◌};
 ghost use Rattle.serde_json.specs.View.{view};
 ghost use Rattle.field_kinds.specs.Refusing.{Reads};
 ghost use Rattle.field_kinds.specs.Kinds.{text, any_text, of};
-ghost use Rattle.field_kinds.specs.Fields.{optional, required, required_if, written_text, written_of};
+ghost use Rattle.field_kinds.specs.Fields.{optional, required, required_if, written_text, written_or, written_of};
 
 use crate::refused::refused_field;
 use crate::rules::{BAD_TEXT, MISSING};
@@ -152,6 +152,22 @@ pub fn written_text(
             }
         }
         None => Ok(None),
+    }
+}
+
+/// A text, and `otherwise` where the field is absent or an empty text.
+pub fn written_text_or(
+    alloc: Global,
+    object: &Value,
+    name: &str,
+    otherwise: &str,
+    at: &FieldPath,
+) -> Result<Text, KindRefused>
+    ensures { Reads result (written_or otherwise.now name.now at.now (view object.now)) }
+{
+    match written_text(alloc, object, name, at)? {
+        Some(text) => Ok(text),
+        None => Ok(Text::from_text(alloc, otherwise)?),
     }
 }
 

@@ -73,7 +73,7 @@ pub fn members<T: Readable>(
     list: &[Value],
     at: &FieldPath,
     around: &T::Around,
-) -> Result<List<T>, KindRefused>
+) -> Result<List<T::Made>, KindRefused>
     ensures { Reads result (members (T.kind around.now) at.now 0 (items_view list.now)) }
 {
     let mut out = List::with_capacity(alloc, list.len())?;
@@ -91,10 +91,10 @@ pub fn list_of<T: Readable>(
     most: usize,
     at: &FieldPath,
     around: &T::Around,
-) -> Result<List<T>, KindRefused>
+) -> Result<List<T::Made>, KindRefused>
     ensures { Reads result (list_of most (T.kind around.now) at.now (view value.now)) }
 {
-    members(alloc, needs_list(value, most, at)?, at, around)
+    members::<T>(alloc, needs_list(value, most, at)?, at, around)
 }
 
 /// A list of any length.
@@ -103,8 +103,8 @@ pub fn all_of<T: Readable>(
     value: &Value,
     at: &FieldPath,
     around: &T::Around,
-) -> Result<List<T>, KindRefused>
+) -> Result<List<T::Made>, KindRefused>
     ensures { Reads result (all_of (T.kind around.now) at.now (view value.now)) }
 {
-    members(alloc, any_list(value, at)?, at, around)
+    members::<T>(alloc, any_list(value, at)?, at, around)
 }
