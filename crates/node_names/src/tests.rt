@@ -22,16 +22,16 @@ fn shown(rt: &HostRuntime, way: &Segs) -> Result<String, Fail> {
 fn names_nodes(rt: HostRuntime) -> Result<(), Fail> {
     let alloc = rt.alloc();
     let root = Text::from_text(alloc, "w")?;
-    let segs = [
-        (Seg::Exit, "w.onExit"),
-        (Seg::Group(1), "w[1]"),
-        (Seg::Call(Text::from_text(alloc, "s-1")?), "w.s-1"),
-        (Seg::Item(0, Text::from_text(alloc, "k:v")?), "w(0:k:v)"),
-        (Seg::Attempt(4294967295), "w(4294967295)"),
-    ];
-    for (seg, expected) in segs {
-        assert_eq!(rt; child_name(&root, &seg.copy()?)?.as_str(), expected);
-    }
+    let exit = child_name(&root, &Seg::Exit)?;
+    assert_eq!(rt; exit.as_str(), "w.onExit");
+    let group = child_name(&root, &Seg::Group(1).copy()?)?;
+    assert_eq!(rt; group.as_str(), "w[1]");
+    let call = child_name(&root, &Seg::Call(Text::from_text(alloc, "s-1")?))?;
+    assert_eq!(rt; call.as_str(), "w.s-1");
+    let item = child_name(&root, &Seg::Item(0, Text::from_text(alloc, "k:v")?))?;
+    assert_eq!(rt; item.as_str(), "w(0:k:v)");
+    let attempt = child_name(&root, &Seg::Attempt(4294967295))?;
+    assert_eq!(rt; attempt.as_str(), "w(4294967295)");
     distinct_names();
     Ok(())
 }
