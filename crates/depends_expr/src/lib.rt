@@ -1,0 +1,6 @@
+//! The text of a DAG task's `depends`: read against its grammar, and evaluated over the results of the tasks that it names.
+#![tactic(auto)]
+
+pub mod depends;
+pub mod results;
+mod steps;

@@ -1,0 +1,5 @@
+pub mod Grammar
+pub mod Numbers
+pub mod Readings
+mod Samples
+pub mod Waits

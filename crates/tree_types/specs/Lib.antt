@@ -1,0 +1,4 @@
+pub mod Phases
+pub mod Places
+pub mod Journals
+pub mod Texts

@@ -1,0 +1,98 @@
+//! The entries of the store's history, and the keys of its objects.
+
+use crate::{Facts, LockId, Outcome, Outputs, Path};
+use base_types::{List, Text};
+
+/// The key of an object in the store.
+#[derive(PartialEq, Eq, Hash, Drop)]
+pub enum Key {
+    Workflow(Text),
+    /// The pod of a workflow, by the name of its node.
+    Pod(Text, Text),
+    Locks,
+    Caches,
+}
+
+/// The holder of a lock: a node of a workflow, or with the empty path the workflow itself.
+#[derive(PartialEq, Eq, Hash, Drop)]
+pub struct HolderKey {
+    pub workflow: Text,
+    pub path: Path,
+}
+
+/// By what waiters of a lock are ranked: the workflow's priority, its creation in Unix seconds, its name, whether the
+/// workflow itself asks, and the node's name.
+#[derive(Drop)]
+pub struct Rank {
+    pub priority: i32,
+    pub created: i64,
+    pub workflow: Text,
+    pub own: bool,
+    pub name: Text,
+}
+
+/// How many may hold a lock.
+#[derive(Drop)]
+pub struct Limit {
+    pub lock: LockId,
+    pub limit: u64,
+}
+
+/// A list of limits.
+pub type Limits = List<Limit>;
+
+/// A change that the store accepted by one call.
+#[derive(Drop)]
+pub enum Entry {
+    /// A workflow was submitted, perhaps from an old one, with these facts carried over.
+    Submit {
+        workflow: Text,
+        old: Option<Text>,
+        facts: Facts,
+    },
+    /// Facts were added to a workflow, which has this version then.
+    Write {
+        workflow: Text,
+        version: u64,
+        facts: Facts,
+    },
+    /// A pod was made for a node, at the tick `begin`.
+    Create {
+        workflow: Text,
+        node: Text,
+        path: Path,
+        begin: u64,
+    },
+    /// A pod ended.
+    Finish {
+        workflow: Text,
+        node: Text,
+        outcome: Outcome,
+    },
+    /// A request for a lock was filed.
+    File {
+        lock: LockId,
+        key: HolderKey,
+        rank: Rank,
+    },
+    /// A lock was released.
+    Release {
+        lock: LockId,
+        key: HolderKey,
+    },
+    /// Outputs were saved in a cache.
+    Save {
+        cache: Text,
+        key: Text,
+        writer: HolderKey,
+        outputs: Outputs,
+        tick: u64,
+    },
+    /// The clock moved.
+    Tick {
+        to: u64,
+    },
+}
+
+/// A list of entries.
+pub type Entries = List<Entry>;

@@ -1,0 +1,27 @@
+-- Conditions of texts, by the definitions alone.
+use Rattle.std.specs.Prelude.{◌≡◌, refl, codes, Some, None, true, Err}
+use Rattle.when_expr.specs.Expression.{equal, below, quoted, word, test, negated, all_of}
+use Rattle.when_expr.specs.Reading.{start, read}
+use Rattle.when_expr.specs.Grammar.{when_of}
+use Rattle.when_expr.specs.Truth.{truth}
+
+plain : when_of (codes "1 == 2") ≡ Some (test (word (codes "1")) equal (word (codes "2")))
+plain = refl
+
+mixed : when_of (codes "2 < 10 && !(a == 'b')") ≡ Some (all_of (test (word (codes "2")) below (word (codes "10"))) (negated (test (word (codes "a")) equal (quoted (codes "b")))))
+mixed = refl
+
+mixed_truth : truth (all_of (test (word (codes "2")) below (word (codes "10"))) (negated (test (word (codes "a")) equal (quoted (codes "b"))))) ≡ Some true
+mixed_truth = refl
+
+no_numbers : truth (test (word (codes "a")) below (word (codes "1"))) ≡ None
+no_numbers = refl
+
+unfinished : read start (codes "a =") ≡ Err 3
+unfinished = refl
+
+broken : read start (codes "a = b") ≡ Err 3
+broken = refl
+
+single : read start (codes "a & b") ≡ Err 2
+single = refl
