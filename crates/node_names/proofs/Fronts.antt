@@ -1,17 +1,13 @@
 -- What reading the front of a text finds.
-use Rattle.std.proofs.Common.{◌≡◌, ◌≢◌, ◌⊎◌, ℕ, zero, suc, ◌+◌, ◌-◌, ◌<◌, ◌≤◌, ◌^◌, ◌||◌, Bool, true, false, not, List, [], ◌∷◌, ◌++◌, length, take, drop, get_or, refl, sym, ap, subst, ◌∙◌, inl, inr, append_assoc, arith}
-use Rattle.std.specs.Prelude.{decimal, codes}
+use Rattle.std.proofs.Common.{◌≡◌, ℕ, zero, suc, ◌+◌, ◌<◌, Bool, true, List, [], ◌∷◌, length, take, drop, get_or, refl, inl, inr, arith}
 use Rattle.std.specs.List.{list_all, prefix_len}
 use Rattle.std.specs.Str.{IsUtf8, IsCharBoundary}
-use Rattle.std.proofs.lemmas.Bool.{cases_Bool, and_from, or_cases, eqb-true}
+use Rattle.std.proofs.lemmas.Bool.{cases_Bool, and_from}
 use Rattle.std.proofs.lemmas.Bool.Decides.{nat_tests}
 use Rattle.std.proofs.lemmas.List.Sums.{prefix_len-le-length, prefix_len_passes}
 use Rattle.std.proofs.lemmas.Str.{IsCharBoundary-start, IsCharBoundary-after_ascii}
-use Rattle.node_names.specs.declared.seg.Seg.{Seg}
-use Rattle.node_names.specs.declared.seg.Seg.TheVariants.{Exit, Group, Call, Item, Attempt}
-use Rattle.node_names.specs.Names.{suffix, is_name_byte, IsStepName, IsSound}
-use Rattle.node_names.specs.Reading.{Stops, EndsBefore, BeginsWith, BeginsWithNone}
-use Rattle.node_names.proofs.Bytes.{runs_agree, is_not, is_not_same, is_not_other, all_more}
+use Rattle.node_names.specs.Names.{is_name_byte}
+use Rattle.node_names.specs.Reading.{Stops}
 
 module _ (p : ℕ → Bool) where
   -- the bytes of a longest run pass

@@ -1,15 +1,15 @@
 -- Where a text begins with no suffix.
-use Rattle.std.proofs.Common.{Bor, Option, Some, None, MatchOption, ◌≡◌, ◌≢◌, ◌⊎◌, ℕ, zero, suc, ◌+◌, ◌<◌, ◌≤◌, ◌^◌, Bool, true, false, List, [], ◌∷◌, ◌++◌, length, get_or, refl, sym, ap, subst, ◌∙◌, inl, inr, append_assoc, length-append, arith}
+use Rattle.std.proofs.Common.{Bor, Option, Some, None, MatchOption, ◌≡◌, ◌≢◌, ℕ, zero, suc, ◌<◌, ◌^◌, Bool, true, false, List, [], ◌∷◌, ◌++◌, length, get_or, refl, sym, ap, subst, ◌∙◌, inl, inr, append_assoc, length-append, arith}
 use Rattle.std.specs.Prelude.{decimal, codes}
 use Rattle.std.specs.List.{list_all}
 use Rattle.std.proofs.lemmas.Bool.Decides.{nat_tests}
 use Rattle.std.proofs.lemmas.List.{get_or_at, append-nil}
 use Rattle.node_names.specs.declared.seg.Seg.{Seg}
 use Rattle.node_names.specs.declared.seg.Seg.TheVariants.{Exit, Group, Call, Item, Attempt}
-use Rattle.node_names.specs.Names.{suffix, is_name_byte, IsStepName, is_no_parenthesis, IsSound}
-use Rattle.node_names.specs.Reading.{Stops, EndsBefore, BeginsWith, BeginsWithNone}
+use Rattle.node_names.specs.Names.{is_name_byte, is_no_parenthesis, IsSound}
+use Rattle.node_names.specs.Reading.{Stops, BeginsWith, BeginsWithNone}
 use Rattle.node_names.proofs.Bytes.{runs_agree, is_not, is_not_other, all_first, all_rest, all_more}
-use Rattle.node_names.proofs.Names.{closed, number_lacks, item_lacks, item_is_no_attempt, first_byte}
+use Rattle.node_names.proofs.Names.{closed, number_lacks, item_lacks, first_byte}
 
 -- a byte stands nowhere in a text
 abbrev pub LacksByte : ℕ → List ℕ → Type 0

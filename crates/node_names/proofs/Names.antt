@@ -1,13 +1,13 @@
 -- A name is led through in one way.
-use Rattle.std.proofs.Common.{◌≡◌, ◌≢◌, ◌⊎◌, ℕ, ◌<◌, ◌≤◌, ◌^◌, ◌||◌, ◌&&◌, nat_eq, Bool, true, false, not, List, [], ◌∷◌, ◌++◌, length, refl, sym, ap, ◌∙◌, inl, inr, append_assoc, arith}
+use Rattle.std.proofs.Common.{◌≡◌, ◌≢◌, ◌⊎◌, ℕ, ◌<◌, ◌^◌, Bool, true, false, List, [], ◌∷◌, ◌++◌, refl, sym, ap, ◌∙◌, inl, inr, append_assoc, arith}
 use Rattle.std.specs.Prelude.{decimal, codes}
 use Rattle.std.specs.Int.{IsInRange}
-use Rattle.std.specs.List.{list_all, AllByRecursion}
+use Rattle.std.specs.List.{list_all}
 use Rattle.std.proofs.lemmas.List.{append-nil, append_cancel_left}
 use Rattle.std.proofs.lemmas.Fmt.{decimal_injective}
 use Rattle.node_names.specs.declared.seg.Seg.{Seg}
 use Rattle.node_names.specs.declared.seg.Seg.TheVariants.{Exit, Group, Call, Item, Attempt}
-use Rattle.node_names.specs.Names.{suffix, name_below, is_name_byte, IsStepName, is_no_parenthesis, IsSound, AreSound}
+use Rattle.node_names.specs.Names.{suffix, name_below, is_name_byte, is_no_parenthesis, IsSound, AreSound}
 use Rattle.node_names.specs.Reading.{Stops, EndsBefore}
 use Rattle.node_names.proofs.Bytes.{runs_agree, decimal_passes, is_not, is_not_same, is_not_other, all_more, all_first, all_rest}
 

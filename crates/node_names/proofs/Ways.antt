@@ -1,12 +1,11 @@
 -- The way that a loop has read.
-use Rattle.std.proofs.Common.{◌≡◌, ◌≢◌, ◌⊎◌, ℕ, zero, suc, ◌+◌, ◌<◌, ◌≤◌, ◌^◌, List, [], ◌∷◌, ◌++◌, length, drop, Option, Some, None, refl, sym, ap, subst, ◌∙◌, append_assoc, length-append, arith}
-use Rattle.std.specs.List.{AllByRecursion}
+use Rattle.std.proofs.Common.{◌≡◌, ◌≢◌, ℕ, ◌<◌, List, [], ◌∷◌, ◌++◌, length, drop, Some, None, refl, sym, ap, ◌∙◌, append_assoc, length-append, arith}
 use Rattle.std.specs.Str.Pattern.{LacksTextAt}
 use Rattle.std.proofs.lemmas.List.{append-nil, append_cancel_left}
 use Rattle.node_names.specs.declared.seg.Seg.{Seg}
 use Rattle.node_names.specs.declared.seg.Seg.TheVariants.{Exit, Group, Call, Item, Attempt}
-use Rattle.node_names.specs.Names.{suffix, name_below, IsSound, AreSound, IsWay}
-use Rattle.node_names.specs.Reading.{EndsBefore, BeginsWith, BeginsWithNone}
+use Rattle.node_names.specs.Names.{suffix, AreSound, IsWay}
+use Rattle.node_names.specs.Reading.{BeginsWith, BeginsWithNone}
 use Rattle.node_names.proofs.Names.{tail, name_is_tail, tail_ends, suffix_some, unsplit}
 
 -- a way and what is left of the suffixes: each way of these suffixes goes on from this one

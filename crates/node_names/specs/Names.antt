@@ -3,7 +3,7 @@
 -- Argo shows a node's name in a workflow's status (field reference, NodeStatus), and forms it from the name of the node
 -- above it as below. That a step is not called `onExit`, and that parentheses are dropped from an item's text, is this
 -- project's own rule: it keeps the names of different nodes apart.
-use Rattle.std.specs.Prelude.{◌≡◌, ◌≢◌, ℕ, ◌+◌, ◌^◌, ◌<◌, ◌≤◌, Bool, true, ◌||◌, not, List, [], ◌∷◌, ◌++◌, length, Option, Some, None, codes, decimal, ◌==◌}
+use Rattle.std.specs.Prelude.{◌≡◌, ◌≢◌, ℕ, ◌^◌, ◌<◌, ◌≤◌, Bool, true, ◌||◌, not, List, [], ◌∷◌, ◌++◌, length, Option, Some, None, codes, decimal, ◌==◌}
 use Rattle.std.specs.Char.{is_ascii_alphanumeric}
 use Rattle.std.specs.List.{list_all, AllByRecursion}
 use Rattle.node_names.specs.declared.seg.Seg.{Seg}

@@ -1,4 +1,4 @@
-use Rattle.std.proofs.Common.{subst, sym, ◌∙◌, ap, take, drop, List, ℕ, ◌≡◌, true}
+use Rattle.std.proofs.Common.{subst, sym, ◌∙◌, ap, take, drop}
 use Rattle.std.specs.List.{list_all, prefix_len}
 use Rattle.std.specs.Str.{IsCharBoundary}
 use Rattle.node_names.specs.Names.{is_name_byte}
