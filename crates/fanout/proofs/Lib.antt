@@ -1,0 +1,3 @@
+pub mod Formats
+pub mod Numerals
+pub mod Telling
