@@ -1,12 +1,12 @@
 //! The format of a sequence's numbers (field reference, `Sequence.format`).
 
-ghost use Rattle.std.specs.Prelude.{◌≡◌, option_map};
+ghost use Rattle.std.specs.Prelude.{◌≡◌, ◌++◌, ◌-◌, option_map, replicate, length, decimal, OnOk, IfOk};
 ghost use Rattle.fanout.specs.Faults.{Tells};
-ghost use Rattle.fanout.specs.Sequences.{format_of};
+ghost use Rattle.fanout.specs.Sequences.{format_of, padded, written};
 ghost use Rattle.fanout.specs.Shapes.{parts_of_shape, AfterFront, AfterBack, number_behind, width_read};
 
 use crate::FanRefused;
-use base_types::{Memory, Text};
+use base_types::{Memory, Text, TryCopy};
 use std::alloc::Global;
 
 /// A format that is read: text, the place of the number with its width, and text.
@@ -84,4 +84,43 @@ fn read_width(text: &str) -> Option<(usize, &str)>
     }
     let rest = wide.strip_prefix(digit as char)?.strip_prefix('d')?;
     Some(((digit - b'0') as usize, rest))
+}
+
+/// A number as a format writes it.
+pub(crate) fn write_number(format: &Format, number: i64) -> Result<Text, Memory>
+    ensures { IfOk result (λ text. text ≡ written (parts_of_shape format.now) number) }
+{
+    let mut text = format.before.copy()?;
+    push_number(&mut text, format.width, number)?;
+    text.push(format.after.as_str())?;
+    Ok(text)
+}
+
+// A minus sign counts as one of the width.
+fn push_number(text: &mut Text, width: usize, number: i64) -> Result<(), Memory>
+    ensures { OnOk result (text.new ≡ text.old ++ padded width number) }
+{
+    if number < 0 {
+        text.push("-")?;
+        push_padded(text, width.saturating_sub(1), number.unsigned_abs())
+    } else {
+        push_padded(text, width, number.unsigned_abs())
+    }
+}
+
+fn push_padded(text: &mut Text, width: usize, number: u64) -> Result<(), Memory>
+    ensures { OnOk result (text.new ≡ text.old ++ (replicate (width - length (decimal number)) 48 ++ decimal number)) }
+{
+    let digits = format!(in text.allocator(); "{number}")?;
+    push_zeros(text, width.saturating_sub(digits.len()))?;
+    text.push(digits.as_str())
+}
+
+fn push_zeros(text: &mut Text, count: usize) -> Result<(), Memory>
+    ensures { OnOk result (text.new ≡ text.old ++ replicate count 48) }
+{
+    for _ in 0..count {
+        text.push("0")?;
+    }
+    Ok(())
 }

@@ -1,13 +1,20 @@
 //! The row of numbers that a sequence says (field reference, `Sequence`).
 
-ghost use Rattle.std.specs.Prelude.{◌≡◌, IfOk, pos};
+ghost use Rattle.std.specs.Prelude.{◌≡◌, ◌≤◌, IfOk, pos};
 ghost use Rattle.fanout.specs.Faults.{Tells};
 ghost use Rattle.fanout.specs.Rows.{row_of, IsNear};
-ghost use Rattle.fanout.specs.Sequences.{whole_or, row_to, row_said};
+ghost use Rattle.fanout.specs.Sequences.{whole_or, row_to, row_said, format_or, numbers};
+ghost use Rattle.fanout.specs.Items.{number_items, sequence_items as sequence_found};
+ghost use Rattle.fanout.specs.Shapes.{parts_of_shape};
 
-use crate::FanRefused;
+use crate::format::{Format, read_format, write_number};
+use crate::items::MOST_ITEMS;
 use crate::numbers::read_whole;
-use base_types::Text;
+use crate::{FanRefused, Items};
+use base_types::{Memory, Text};
+use serde_json::Value;
+use std::alloc::Global;
+use wf_manifest::Json;
 
 /// So many numbers from a first one on, each one more than the one before it, or one less.
 #[derive(Clone, Copy)]
@@ -65,4 +72,47 @@ fn row_between(first: i64, last: i64) -> Row
         down: last < first,
         first,
     }
+}
+
+/// The items of a sequence, each a number as its format writes it.
+pub(crate) fn sequence_items(
+    alloc: Global,
+    count: &Option<Text>,
+    start: &Option<Text>,
+    end: &Option<Text>,
+    format: &Option<Text>,
+) -> Result<Items, FanRefused>
+    ensures { Tells (λ items. items) result (sequence_found count.now start.now end.now format.now) }
+{
+    let row = read_row(count, start, end)?;
+    let format = format_or_plain(alloc, format)?;
+    if row.count > MOST_ITEMS as u64 {
+        return Err(FanRefused::TooManyItems);
+    }
+    Ok(write_row(alloc, &format, row)?)
+}
+
+fn format_or_plain(alloc: Global, format: &Option<Text>) -> Result<Format, FanRefused>
+    ensures { Tells parts_of_shape result (format_or format.now) }
+{
+    match format {
+        Some(format) => read_format(alloc, format.as_str()),
+        None => read_format(alloc, "%d"),
+    }
+}
+
+fn write_row(alloc: Global, format: &Format, row: Row) -> Result<Items, Memory>
+    requires near { IsNear row.first }
+    requires few { row.count ≤ 1000 }
+    ensures { IfOk result (λ items. items ≡ number_items (parts_of_shape format.now, numbers (row_of row))) }
+{
+    let mut items = Items::with_capacity(alloc, row.count as usize)?;
+    let step = if row.down { -1 } else { 1 };
+    let mut number = row.first;
+    for _ in 0..row.count {
+        let text = write_number(format, number)?;
+        items.push(Json::new(Value::String(text.into_string())))?;
+        number += step;
+    }
+    Ok(items)
 }
