@@ -1,3 +1,6 @@
 pub mod Expression
 pub mod Truth
+pub mod Grammar
+pub mod Reading
+pub mod Postfix
 pub mod View

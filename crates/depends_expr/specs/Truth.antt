@@ -35,14 +35,14 @@ named (negation e) = named e
 named (both d e) = named d ++ named e
 named (either d e) = named d ++ named e
 
-abbrev pub is_among : List ℕ → List (List ℕ) → Bool
-is_among name names = list_any (bytes_eq name) names
+-- the names so far, and one more unless it is among them
+abbrev pub add_name : List (List ℕ) → List ℕ → List (List ℕ)
+add_name names name = if list_any (bytes_eq name) names then names else names ++ name ∷ []
 
--- what comes for the first time, where some names have come
-abbrev pub new_names : List (List ℕ) → List (List ℕ) → List (List ℕ)
-new_names seen [] = []
-new_names seen (n ∷ ns) = if is_among n seen then new_names seen ns else n ∷ new_names (seen ++ n ∷ []) ns
+abbrev pub add_names : List (List ℕ) → List (List ℕ) → List (List ℕ)
+add_names names [] = names
+add_names names (n ∷ ns) = add_names (add_name names n) ns
 
 -- the names, each once, by first place
 abbrev pub names_of : Expression → List (List ℕ)
-names_of e = new_names [] (named e)
+names_of e = add_names [] (named e)

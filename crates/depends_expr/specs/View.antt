@@ -1,46 +1,46 @@
--- The expression that a list of steps in postfix order builds: each connective stands behind its operands.
-use Rattle.std.specs.Prelude.{ℕ, List, [], ◌∷◌, Option, None, Some, slice_get}
-use Rattle.depends_expr.specs.declared.depends.Step.{Step}
-use Rattle.depends_expr.specs.declared.depends.Step.TheVariants.{Bare, Has, Not, And, Or}
-use Rattle.depends_expr.specs.declared.depends.Outcome.{Outcome}
-use Rattle.depends_expr.specs.declared.depends.Outcome.TheVariants as o
-use Rattle.depends_expr.specs.Expression.{Word, succeeded, failed, errored, skipped, omitted, daemoned, any_succeeded, all_failed, Expression, bare, has, negation, both, either}
-
-abbrev pub word_of : Outcome → Word
-word_of o.Succeeded = succeeded
-word_of o.Failed = failed
-word_of o.Errored = errored
-word_of o.Skipped = skipped
-word_of o.Omitted = omitted
-word_of o.Daemoned = daemoned
-word_of o.AnySucceeded = any_succeeded
-word_of o.AllFailed = all_failed
+-- What contracts see of what the crate keeps.
+use Rattle.std.specs.Prelude.{◌≡◌, ℕ, zero, suc, ◌≤◌, List, [], ◌∷◌, ◌++◌, length, map, max, Bool, true, false, ◌&&◌, nat_lt, IsTrue, Option, None, Some, slice_get}
+use Rattle.std.specs.List.{list_all}
+use Rattle.depends_expr.specs.declared.steps.Step.{Step}
+use Rattle.depends_expr.specs.declared.steps.Step.TheVariants.{Bare, Has, Not, And, Or}
+use Rattle.depends_expr.specs.Expression.{Expression, bare, has, negation, both, either}
+use Rattle.depends_expr.specs.Truth.{names_of}
+use Rattle.depends_expr.specs.Postfix.{postfix, expression_of}
 
 -- the name that was found, or none
 abbrev pub found : Option (List ℕ) → List ℕ
 found None = []
 found (Some name) = name
 
--- the name at a position
-abbrev pub name_at : List (List ℕ) → ℕ → List ℕ
-name_at names position = found (slice_get names position)
+-- a step with the name at its position
+abbrev pub with_name : List (List ℕ) → Step ℕ → Step (List ℕ)
+with_name names (Bare n) = Bare (found (slice_get names n))
+with_name names (Has n w) = Has (found (slice_get names n)) w
+with_name names Not = Not
+with_name names And = And
+with_name names Or = Or
 
--- what a step makes of the expressions built so far, the latest first
-abbrev pub build : List (List ℕ) → Step → List Expression → List Expression
-build names (Bare n) es = bare (name_at names n) ∷ es
-build names (Has n w) es = has (name_at names n) (word_of w) ∷ es
-build names Not (e ∷ es) = negation e ∷ es
-build names And (e ∷ d ∷ es) = both d e ∷ es
-build names Or (e ∷ d ∷ es) = either d e ∷ es
-build names _ es = es
+abbrev pub named_expression : List (List ℕ) → List (Step ℕ) → Expression
+named_expression names steps = expression_of (map (with_name names) steps)
 
-abbrev pub built : List (List ℕ) → List Step → List Expression → List Expression
-built names [] es = es
-built names (s ∷ ss) es = built names ss (build names s es)
+abbrev pub is_position_below : ℕ → Step ℕ → Bool
+is_position_below n (Bare i) = nat_lt i n
+is_position_below n (Has i w) = nat_lt i n
+is_position_below n Not = true
+is_position_below n And = true
+is_position_below n Or = true
 
-abbrev pub top : List Expression → Expression
-top [] = bare []
-top (e ∷ es) = e
+-- how many operands wait at most while an expression is evaluated
+abbrev pub peak : Expression → ℕ
+peak (bare n) = 1
+peak (has n w) = 1
+peak (negation e) = peak e
+peak (both d e) = max (peak d) (suc (peak e))
+peak (either d e) = max (peak d) (suc (peak e))
 
-abbrev pub expression_of : List (List ℕ) → List Step → Expression
-expression_of names steps = top (built names steps [])
+-- steps over names that are a whole expression, which names each of the names, and nests within the grammar's bound
+pub record IsWhole (names : List (List ℕ)) (steps : List (Step ℕ)) : Type 0 where
+  pub whole : map (with_name names) steps ≡ postfix (named_expression names steps)
+  pub positions : IsTrue (list_all (is_position_below (length names)) steps)
+  pub each_once : names ≡ names_of (named_expression names steps)
+  pub low : peak (named_expression names steps) ≤ 131

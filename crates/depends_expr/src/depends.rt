@@ -1,43 +1,14 @@
 //! What a task's `depends` says.
 
+use crate::steps::Step;
 use base_types::{List, Memory, Names, TryCopy};
 use std::marker::Model;
 
-/// A result that an expression can ask for.
-#[derive(Clone, Copy, Debug, PartialEq, Eq)]
-pub(crate) enum Outcome {
-    Succeeded,
-    Failed,
-    Errored,
-    Skipped,
-    Omitted,
-    Daemoned,
-    AnySucceeded,
-    AllFailed,
-}
-
-/// A step of an expression in postfix order. A number is a name's position among the names.
-#[derive(Clone, Copy, Debug, PartialEq, Eq)]
-pub(crate) enum Step {
-    Bare(usize),
-    Has(usize, Outcome),
-    Not,
-    And,
-    Or,
-}
-
-impl TryCopy for Step {
-    fn copy(&self) -> Result<Step, Memory> {
-        Ok(*self)
-    }
-}
-
-/// An expression over the results of tasks. It is kept flat, each connective behind its operands, so that no chain of
-/// `&&` or `||`, however long, makes a recursion.
+/// An expression over the results of tasks, and the names of these tasks.
 #[derive(Drop)]
 pub struct Depends {
     names: Names,
-    steps: List<Step>,
+    steps: List<Step<usize>>,
 }
 
 impl Model for Depends {
@@ -47,9 +18,11 @@ impl Model for Depends {
 
     ghost coded = { expression_code };
 
-    ghost use Rattle.depends_expr.specs.View.{expression_of};
+    ghost use Rattle.depends_expr.specs.View.{named_expression, IsWhole};
 
-    ghost view = { λ a. expression_of a.names a.steps };
+    ghost view = { λ a. named_expression a.names a.steps };
+
+    ghost invariant = { λ a. IsWhole a.names a.steps };
 }
 
 impl TryCopy for Depends {

@@ -3,3 +3,4 @@
 
 pub mod depends;
 pub mod results;
+mod steps;

@@ -144,7 +144,10 @@ written ps z = flat_map (part_written z) ps
 
 -- ---- the texts of a sequence, or its first fault: a number, the format, too many
 
-abbrev pub sequence_texts : Option (List ℕ) → Option (List ℕ) → Option (List ℕ) → Option (List ℕ) → Found (Format × List ℤ)
+abbrev pub MaybeText : Type 0
+MaybeText = Option (List ℕ)
+
+abbrev pub sequence_texts : MaybeText → MaybeText → MaybeText → MaybeText → Found (Format × List ℤ)
 sequence_texts count start end format = do
   row ← row_said count start end
   shape ← format_or format

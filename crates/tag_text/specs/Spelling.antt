@@ -1,6 +1,6 @@
 -- How a text with tags is spelled.
 use Rattle.std.specs.Prelude.{◌≡◌, ◌≢◌, ℕ, List, [], ◌∷◌, ◌++◌, true}
-use Rattle.std.specs.List.{AllPass}
+use Rattle.std.specs.List.{list_all}
 use Rattle.tag_text.specs.declared.part.Part.{Part}
 use Rattle.tag_text.specs.declared.part.Part.TheVariants.{Plain, Tag}
 use Rattle.tag_text.specs.Parts.{opening, closing, is_space}
@@ -40,8 +40,8 @@ pub record IsInside (name inside : List ℕ) : Type 0 where
   pub left : List ℕ
   pub right : List ℕ
   pub is : inside ≡ left ++ name ++ right
-  pub left_spaces : AllPass is_space left
-  pub right_spaces : AllPass is_space right
+  pub left_spaces : list_all is_space left ≡ true
+  pub right_spaces : list_all is_space right ≡ true
   pub ends : LeadsTo closing inside
 
 -- a text that these parts are written as, one after the other

@@ -23,6 +23,13 @@ impl Model for TagText {
 }
 
 impl TagText {
+    // The text of these parts.
+    pub(crate) fn from_parts(parts: List<Part>) -> Self
+        ensures { result ≡ parts }
+    {
+        TagText { parts }
+    }
+
     /// The number of its parts.
     pub fn len(&self) -> usize
         ensures { result ≡ length self.now }

@@ -1,0 +1,6 @@
+mod Rows
+pub mod Bytes
+pub mod Taken
+pub mod Held
+pub mod Fronts
+pub mod Postfixes

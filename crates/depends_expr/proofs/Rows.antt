@@ -1,0 +1,13 @@
+-- Expressions of texts, by the definitions alone.
+use Rattle.std.specs.Prelude.{◌≡◌, refl, codes, Some, None}
+use Rattle.depends_expr.specs.Expression.{Word, succeeded, failed, errored, skipped, omitted, daemoned, any_succeeded, all_failed, Expression, bare, has, negation, both, either}
+use Rattle.depends_expr.specs.Reading.{start, read, place}
+
+plain : read start (codes " A&&!B.Failed || (C )") ≡ Some (either (both (bare (codes "A")) (negation (has (codes "B") failed))) (bare (codes "C")))
+plain = refl
+
+unfinished : place start (codes "A &&") ≡ 4
+unfinished = refl
+
+single : place start (codes "A & B") ≡ 3
+single = refl

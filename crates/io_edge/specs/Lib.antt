@@ -1,0 +1,6 @@
+pub mod Cause
+pub mod Counting
+pub mod Plans
+pub mod Stores
+pub mod Supplies
+pub mod Transfer

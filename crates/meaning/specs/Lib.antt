@@ -1,0 +1,11 @@
+pub mod Answers
+pub mod Lines
+pub mod Outputs
+pub mod Pods
+pub mod Suspends
+pub mod Steps
+pub mod Dags
+pub mod Calls
+pub mod Trees
+pub mod Guards
+pub mod Plain

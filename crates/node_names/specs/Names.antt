@@ -1,0 +1,47 @@
+-- The names of nodes.
+--
+-- Argo shows a node's name in a workflow's status (field reference, NodeStatus), and forms it from the name of the node
+-- above it as below. That a step is not called `onExit`, and that parentheses are dropped from an item's text, is this
+-- project's own rule: it keeps the names of different nodes apart.
+use Rattle.std.specs.Prelude.{◌≡◌, ◌≢◌, ℕ, ◌+◌, ◌^◌, ◌<◌, ◌≤◌, Bool, true, ◌||◌, not, List, [], ◌∷◌, ◌++◌, length, codes, decimal, ◌==◌}
+use Rattle.std.specs.Char.{is_ascii_alphanumeric}
+use Rattle.std.specs.List.{list_all, AllByRecursion}
+use Rattle.node_names.specs.declared.seg.Seg.{Seg}
+use Rattle.node_names.specs.declared.seg.Seg.TheVariants.{Exit, Group, Call, Item, Attempt}
+
+-- what stands in the name behind the name of the node above
+abbrev pub suffix : Seg → List ℕ
+suffix Exit = codes ".onExit"
+suffix (Group i) = codes "[" ++ decimal i ++ codes "]"
+suffix (Call name) = codes "." ++ name
+suffix (Item i text) = codes "(" ++ decimal i ++ codes ":" ++ text ++ codes ")"
+suffix (Attempt k) = codes "(" ++ decimal k ++ codes ")"
+
+-- the name of the node that this way leads to
+abbrev pub name_below : List ℕ → List Seg → List ℕ
+name_below root [] = root
+name_below root (seg ∷ way) = name_below (root ++ suffix seg) way
+
+-- a letter, a digit, `-` or `_`
+abbrev pub is_name_byte : ℕ → Bool
+is_name_byte b = is_ascii_alphanumeric b || (b == 45) || (b == 95)
+
+-- the name of a step or task
+pub record IsStepName (name : List ℕ) : Type 0 where
+  pub bytes : list_all is_name_byte name ≡ true
+  pub some : 0 < length name
+  pub short : length name ≤ 128
+
+abbrev pub is_no_parenthesis : ℕ → Bool
+is_no_parenthesis b = not ((b == 40) || (b == 41))
+
+-- a number of 32 bits, the name of a step that is not `onExit`, and a text without a parenthesis
+abbrev pub IsSound : Seg → Type 0
+IsSound Exit = Unit {0}
+IsSound (Group i) = i < 2 ^ 32
+IsSound (Call name) = IsStepName name × (name ≢ codes "onExit")
+IsSound (Item i text) = (i < 2 ^ 32) × (list_all is_no_parenthesis text ≡ true)
+IsSound (Attempt k) = k < 2 ^ 32
+
+abbrev pub AreSound : List Seg → Type 0
+AreSound way = AllByRecursion IsSound way

@@ -1,0 +1,10 @@
+//! The names of nodes: how a node below another is named, and which nodes a name leads through.
+#![tactic(auto)]
+
+mod law;
+mod naming;
+mod seg;
+
+pub use law::distinct_names;
+pub use naming::child_name;
+pub use seg::{Seg, Segs};

@@ -1,0 +1,5 @@
+pub mod Cuts
+pub mod Parsing
+pub mod Spaces
+pub mod SpellingLemmas
+pub mod Strips
