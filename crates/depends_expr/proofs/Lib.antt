@@ -4,3 +4,4 @@ pub mod Taken
 pub mod Held
 pub mod Fronts
 pub mod Postfixes
+pub mod Negations

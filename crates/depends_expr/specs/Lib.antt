@@ -4,3 +4,4 @@ pub mod Grammar
 pub mod Reading
 pub mod Postfix
 pub mod View
+pub mod Drafts

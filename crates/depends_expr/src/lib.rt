@@ -2,5 +2,6 @@
 #![tactic(auto)]
 
 pub mod depends;
+mod reading;
 pub mod results;
 mod steps;
