@@ -5,3 +5,5 @@ pub mod Held
 pub mod Fronts
 pub mod Postfixes
 pub mod Negations
+pub mod Words
+pub mod Peaks

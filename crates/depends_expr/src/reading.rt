@@ -1,13 +1,15 @@
 //! The reading of a `depends`, byte by byte: what is open after a text, or that no text of the grammar begins so.
 
-ghost use Rattle.std.specs.Prelude.{◌≡◌, ℕ, ◌<◌, ◌-◌, ◌++◌, ◌∷◌, [], IfOk, string_bytes, Option, Some, None, option_map, map};
+ghost use Rattle.std.specs.Prelude.{◌≡◌, ℕ, ◌<◌, ◌-◌, ◌++◌, ◌∷◌, [], IfOk, string_bytes, Option, Some, None, option_map, map, IfErr, ◌≢◌};
 ghost use Rattle.std.specs.List.{list_any};
 ghost use Rattle.depends_expr.specs.Expression.{bare, has};
 ghost use Rattle.depends_expr.specs.Grammar.{spelling};
 ghost use Rattle.depends_expr.specs.Postfix.{word_of};
-ghost use Rattle.depends_expr.specs.Reading.{kind, times, plus, negate, done, operand as operand_state, add_not as add_not_state, open_level as open_level_state, close_level as close_level_state, on_done, on_wants, on_name, on_result, spelled, words, begins_word, is_found, behind, step, half_and, half_or};
+ghost use Rattle.depends_expr.specs.Reading.{kind, times, plus, negate, done, operand as operand_state, add_not as add_not_state, open_level as open_level_state, close_level as close_level_state, on_done, on_wants, on_name, on_result, spelled, words, begins_word, is_found, behind, step, half_and, half_or, whole as whole_expression, final, start, place, read as read_from};
+ghost use Rattle.depends_expr.specs.declared.refused.DependsRefused.TheVariants as refused;
 ghost use Rattle.depends_expr.specs.Drafts.{kind_of, level_of, levels_of, around_of, behind_of, state_of, next_of};
 
+use crate::DependsRefused;
 use crate::steps::{Draft, OUTCOMES, Outcome};
 use base_types::{Memory, Text};
 use std::alloc::Global;
@@ -382,5 +384,66 @@ fn next(alloc: Global, state: State, byte: u8) -> Result<Option<State>, Memory>
         State::Done(behind) => after_operand(kind_at(byte), behind),
         State::HalfAnd(behind) => Ok(after_ampersand(byte, behind)),
         State::HalfOr(behind) => after_bar(byte, behind),
+    }
+}
+
+// What the text before a place says, where it is whole.
+fn whole(behind: Behind) -> Result<Option<Draft>, Memory>
+    ensures { IfOk result (λ draft. draft ≡ whole_expression behind.last behind.sum (levels_of behind.outer.items)) }
+{
+    let Behind {
+        last, sum, outer, ..
+    } = behind;
+    let mut outer = outer;
+    match outer.pop() {
+        Some(_) => Ok(None),
+        None => Ok(Some(add(sum, last)?)),
+    }
+}
+
+fn finish(alloc: Global, state: State) -> Result<Option<Draft>, Memory>
+    ensures { IfOk result (λ draft. draft ≡ final (state_of state)) }
+{
+    match state {
+        State::InName(name, around) => {
+            let operand = Draft::bare(alloc, Text::from_string(name))?;
+            whole(behind_operand(operand, around)?)
+        }
+        State::Done(behind) => whole(behind),
+        State::Wants(_) | State::InResult(_, _, _) | State::HalfAnd(_) | State::HalfOr(_) => {
+            Ok(None)
+        }
+    }
+}
+
+fn beginning(alloc: Global) -> State
+    ensures { state_of result ≡ start }
+{
+    State::Wants(Around {
+        level: Level {
+            sum: None,
+            product: None,
+            begun: 64,
+            room: 64,
+        },
+        outer: Vec::new(alloc),
+    })
+}
+
+/// What a text says, or the place of its fault.
+pub(crate) fn read(alloc: Global, text: &[u8]) -> Result<Draft, DependsRefused>
+    ensures ok { IfOk result (λ draft. read_from start text.now ≡ Some draft) }
+    ensures bad { IfErr result (λ e. e ≢ refused.Memory → (read_from start text.now ≡ None) × (e ≡ refused.Bad (place start text.now))) }
+{
+    let mut state = beginning(alloc);
+    for (place, byte) in text.iter().enumerate() {
+        match next(alloc, state, *byte)? {
+            Some(following) => state = following,
+            None => return Err(DependsRefused::Bad { place }),
+        }
+    }
+    match finish(alloc, state)? {
+        Some(draft) => Ok(draft),
+        None => Err(DependsRefused::Bad { place: text.len() }),
     }
 }
