@@ -6,4 +6,5 @@ pub mod Fronts
 pub mod Postfixes
 pub mod Negations
 pub mod Words
+pub mod Lists
 pub mod Peaks

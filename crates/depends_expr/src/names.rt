@@ -41,12 +41,13 @@ impl NameTable {
     }
 
     /// The names as a list.
+    #[tactic(auto, using(crate::proofs::Lists::one_taken))]
     pub(crate) fn names(&self, alloc: Global) -> Result<Names, Memory>
         ensures { IfOk result (λ names. names ≡ self.now) }
     {
         let mut names = Names::with_capacity(alloc, self.set.len())?;
-        for name in self.set.iter() {
-            names.push(name.copy()?)?;
+        for position in 0..self.set.len() {
+            names.push(self.set[position].copy()?)?;
         }
         Ok(names)
     }
