@@ -7,4 +7,6 @@ pub mod Postfixes
 pub mod Negations
 pub mod Words
 pub mod Lists
+pub mod Numberings
+pub mod Evaluations
 pub mod Peaks

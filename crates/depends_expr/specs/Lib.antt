@@ -5,3 +5,5 @@ pub mod Reading
 pub mod Postfix
 pub mod View
 pub mod Drafts
+pub mod Numbering
+pub mod Values
