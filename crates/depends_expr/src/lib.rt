@@ -2,5 +2,12 @@
 #![tactic(auto)]
 
 pub mod depends;
+mod names;
+mod reading;
+mod refused;
 pub mod results;
 mod steps;
+
+pub use depends::Depends;
+pub use refused::DependsRefused;
+pub use results::TaskResult;
