@@ -1,14 +1,15 @@
 //! The row of numbers that a sequence says (field reference, `Sequence`).
 
-ghost use Rattle.std.specs.Prelude.{◌≡◌, ◌≤◌, IfOk, pos};
+ghost use Rattle.std.specs.Prelude.{◌≡◌, ◌≤◌, ◌^◌, IfOk, pos, negsuc, neg_ℤ, ◌≤ℤ◌, ◌+ℤ◌, ◌-ℤ◌, if◌then◌else◌};
+ghost use Rattle.serde_json.specs.Data.{string};
 ghost use Rattle.fanout.specs.Faults.{Tells};
 ghost use Rattle.fanout.specs.Rows.{row_of, IsNear};
-ghost use Rattle.fanout.specs.Sequences.{whole_or, row_to, row_said, format_or, numbers};
+ghost use Rattle.fanout.specs.Sequences.{whole_or, row_to, row_said, format_or, numbers, written};
 ghost use Rattle.fanout.specs.Items.{number_items, sequence_items as sequence_found};
 ghost use Rattle.fanout.specs.Shapes.{parts_of_shape};
 
 use crate::format::{Format, read_format, write_number};
-use crate::items::MOST_ITEMS;
+use crate::lists::MOST_ITEMS;
 use crate::numbers::read_whole;
 use crate::{FanRefused, Items};
 use base_types::{Memory, Text};
@@ -107,12 +108,27 @@ fn write_row(alloc: Global, format: &Format, row: Row) -> Result<Items, Memory>
     ensures { IfOk result (λ items. items ≡ number_items (parts_of_shape format.now, numbers (row_of row))) }
 {
     let mut items = Items::with_capacity(alloc, row.count as usize)?;
-    let step = if row.down { -1 } else { 1 };
     let mut number = row.first;
     for _ in 0..row.count {
-        let text = write_number(format, number)?;
-        items.push(Json::new(Value::String(text.into_string())))?;
-        number += step;
+        items.push(number_item(format, number)?)?;
+        number = following(number, row.down);
     }
     Ok(items)
+}
+
+fn number_item(format: &Format, number: i64) -> Result<Json, Memory>
+    ensures { IfOk result (λ item. item ≡ string (written (parts_of_shape format.now) number)) }
+{
+    let text = write_number(format, number)?;
+    Ok(Json::new(Value::String(text.into_string())))
+}
+
+fn following(number: i64, down: bool) -> i64
+    requires low { neg_ℤ (pos (2 ^ 62)) ≤ℤ number }
+    requires high { number ≤ℤ pos (2 ^ 62) }
+    ensures step { result ≡ number +ℤ (if down then negsuc 0 else pos 1) }
+    ensures low { (number -ℤ pos 1) ≤ℤ result }
+    ensures high { result ≤ℤ (number +ℤ pos 1) }
+{
+    if down { number - 1 } else { number + 1 }
 }

@@ -9,7 +9,7 @@ use Rattle.fanout.proofs.sequence.write_row.Given as goal
 abbrev pub invariant-loop : goal.invariant-loop
 invariant-loop l = record {
   written :
-      l.items ++ map (λ z. string (written (parts_of_shape l.format) z)) (numbers_from (l.fn.row.count - l.counter) l.step l.number)
+      l.items ++ map (λ z. string (written (parts_of_shape l.format) z)) (numbers_from (l.fn.row.count - l.counter) (row_of l.fn.row).step l.number)
       ≡ number_items (parts_of_shape l.format, numbers (row_of l.fn.row));
   low : neg_ℤ (pos (10 ^ 12 + l.counter)) ≤ℤ l.number;
   high : l.number ≤ℤ pos (10 ^ 12 + l.counter);

@@ -1,7 +1,7 @@
 use Rattle.std.proofs.Common.{◌≡◌, drop}
 use Rattle.serde_json.specs.View.{items_view, members_view}
 use Rattle.fanout.specs.Items.{are_whole, members_are_whole}
-use Rattle.fanout.proofs.items.+whole.Given as goal
+use Rattle.fanout.proofs.lists.+whole.Given as goal
 
 abbrev pub invariant-has_whole_items-loop-value : goal.invariant-has_whole_items-loop-value
 invariant-has_whole_items-loop-value l =

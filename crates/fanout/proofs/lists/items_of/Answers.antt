@@ -3,7 +3,7 @@ use Rattle.serde_json.specs.View.{items_view}
 use Rattle.fanout.specs.Items.{are_whole, items_of_data}
 use Rattle.fanout.proofs.Wholes.{bad_items, many_items, good_items}
 use Rattle.serde_json.specs.View.{view}
-use Rattle.fanout.proofs.items.items_of.Goals as goal
+use Rattle.fanout.proofs.lists.items_of.Goals as goal
 
 pub returns-then-not-has_whole_items : goal.returns-then-not-has_whole_items
 returns-then-not-has_whole_items c =
