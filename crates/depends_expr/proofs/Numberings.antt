@@ -95,13 +95,15 @@ numbers_none = record { firsts = refl; same = refl; positions = refl }
 
 pub numbers_whole : (names : List (List ℕ)) (xs : List (Step ℕ)) (ys : List (Step (List ℕ))) → AreSteps ys → Numbers names xs ys → peak (expression_of ys) ≤ 131 → IsWhole names xs × (named_expression names xs ≡ expression_of ys)
 numbers_whole names xs ys a h l =
-    let same : named_expression names xs ≡ expression_of ys = ap expression_of h.same in
-    (record {
-      whole = h.same ∙ a ∙ ap postfix (sym same);
-      positions = h.positions;
-      each_once = h.firsts ∙ ap (λ zs. add_names [] zs) (ap leaves a ∙ leaves_postfix (expression_of ys)) ∙ ap names_of (sym same);
-      low = subst (λ e. peak e ≤ 131) (sym same) l;
-    }, same)
+    let same : named_expression names xs ≡ expression_of ys = ap expression_of h.same in (
+      record {
+        whole = h.same ∙ a ∙ ap postfix (sym same);
+        positions = h.positions;
+        each_once = h.firsts ∙ ap (λ zs. add_names [] zs) (ap leaves a ∙ leaves_postfix (expression_of ys)) ∙ ap names_of (sym same);
+        low = subst (λ e. peak e ≤ 131) (sym same) l;
+      },
+      same,
+    )
 
 pub numbers_next : (old new : List (List ℕ)) (xs zs : List (Step ℕ)) (all : List (Step (List ℕ))) (i : ℕ) (x : Step ℕ) (y : Step (List ℕ)) → Numbers old xs (take i all) → NumbersStep old new x y → zs ≡ xs ++ x ∷ [] → i < length all → y ≡ slice_index_or all i y → Numbers new zs (take (i + 1) all)
 numbers_next old new xs zs all i x y h s p l q =

@@ -32,7 +32,10 @@ fn evaluates(rt: HostRuntime) -> Result<(), Fail> {
         ("A && B || B.AllFailed", true),
         ("!A || !(B.Failed)", false),
         ("A.Daemoned", false),
-        ("!B.Omitted && !A.Errored && !B.AnySucceeded && !B.Skipped", true),
+        (
+            "!B.Omitted && !A.Errored && !B.AnySucceeded && !B.Skipped",
+            true,
+        ),
         ("A || (B && B)", true),
     ];
     for (text, expected) in table {
@@ -61,7 +64,10 @@ fn refuses(rt: HostRuntime) -> Result<(), Fail> {
         ("!", 1),
     ];
     for (text, place) in table {
-        assert!(rt; matches!(parse_depends(alloc, text), Err(DependsRefused::Bad { place: p }) if p == place), "{text}");
+        assert!(rt;
+            matches!(parse_depends(alloc, text), Err(DependsRefused::Bad { place: p }) if p == place),
+            "{text}"
+        );
     }
     Ok(())
 }

@@ -1,1 +1,4 @@
 mod Rows
+pub mod Bytes
+pub mod Taken
+pub mod Held
