@@ -3,4 +3,4 @@ pub mod Truth
 pub mod Symbols
 pub mod Reading
 pub mod Grammar
-pub mod View
+pub mod Postfix
