@@ -37,9 +37,9 @@ top_value (b ∷ bs) = b
 abbrev pub has_room : {A : Type 0} → ℕ → Step A → Bool
 has_room d (Bare n) = nat_lt d 131
 has_room d (Has n w) = nat_lt d 131
-has_room d Not = nat_lt 0 d
-has_room d And = nat_lt 1 d
-has_room d Or = nat_lt 1 d
+has_room d Not = nat_lt 0 d && nat_lt d 132
+has_room d And = nat_lt 1 d && nat_lt d 132
+has_room d Or = nat_lt 1 d && nat_lt d 132
 
 -- how many values there are behind it
 abbrev pub values_after : {A : Type 0} → ℕ → Step A → ℕ
