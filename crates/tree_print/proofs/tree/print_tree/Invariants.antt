@@ -1,5 +1,5 @@
 use Rattle.std.proofs.Common.{◌≡◌, ◌++◌, take, map}
-use Rattle.tree_types.specs.Texts.{workflow_line, node_line, text_of_lines}
+use Rattle.tree_types.specs.Texts.{node_line, text_of_lines}
 use Rattle.tree_print.proofs.tree.print_tree.Given as goal
 
 abbrev pub invariant-loop-node : goal.invariant-loop-node
