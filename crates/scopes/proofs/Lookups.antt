@@ -1,6 +1,6 @@
 -- Values in scopes, as a map keeps them.
 use Rattle.std.proofs.Common.{◌≡◌, ◌≢◌, ◌⊎◌, ℕ, zero, suc, ◌+◌, ◌<◌, ◌≤◌, Bool, true, false, cond, List, [], ◌∷◌, ◌++◌, length, drop, Option, Some, None, MatchOption, String, string_bytes, Bor, refl, sym, ap, subst, ◌∙◌, inl, inr, arith}
-use Rattle.std.specs.Prelude.{bytes_eq, map, slice_get, if◌then◌else◌}
+use Rattle.std.specs.Prelude.{bytes_eq, codes, slice_get, if◌then◌else◌}
 use Rattle.std.specs.Option.{option_copied}
 use Rattle.std.specs.Map.{lookup}
 use Rattle.std.proofs.lemmas.Bool.{cases_Bool, false_from_ne_true}
@@ -10,7 +10,7 @@ use Rattle.std.proofs.lemmas.Slice.Eq.{bytes_eq-Decides}
 use Rattle.indexmap.specs.IndexMap.{insert_entry}
 use Rattle.tree_types.specs.declared.outcome.Param.{Param}
 use Rattle.scopes.specs.Entries.{shown}
-use Rattle.scopes.specs.Substitution.{Scope, value_in, parameter_tags}
+use Rattle.scopes.specs.Substitution.{Scope, value_in, parameter_tags, workflow_tags, input_tags}
 use Rattle.scopes.specs.Values.{HasValuesOf}
 
 bytes_eq-comm : (a b : List ℕ) → bytes_eq a b ≡ bytes_eq b a
@@ -46,7 +46,7 @@ module _ {Y : Type 0} (eq : String Y → String Y → Bool) (by_bytes : (a b : S
   pub inserted : (entries : List (String Y × List ℕ)) (key : String Y) (value tag : List ℕ) → value_in (shown (insert_entry eq entries key value)) tag ≡ value_in ((string_bytes key, value) ∷ shown entries) tag
   inserted [] key value tag = refl
   inserted (e ∷ es) key value tag = elim (cases_Bool (eq key e.0)) [
-      inl same ↦
+    | inl same ↦
         let keys : string_bytes key ≡ string_bytes e.0 = same_texts _ _ (sym (by_bytes key e.0) ∙ same) in
         ap (λ (es : List (String Y × List ℕ)). value_in (shown es) tag) (if_true (eq key e.0) ((e.0, value) ∷ es) (e ∷ insert_entry eq es key value) same)
         ∙ replaced (string_bytes e.0) value e.1 (shown es)
@@ -55,22 +55,22 @@ module _ {Y : Type 0} (eq : String Y → String Y → Bool) (by_bytes : (a b : S
         ap (λ (es : List (String Y × List ℕ)). value_in (shown es) tag) (if_false (eq key e.0) ((e.0, value) ∷ es) (e ∷ insert_entry eq es key value) differs)
         ∙ ap (λ o. if bytes_eq (string_bytes e.0) tag then Some e.1 else o) (inserted es key value tag)
         ∙ swapped (string_bytes key) (string_bytes e.0) value e.1 (shown es) (sym (by_bytes key e.0) ∙ differs)
-    ]
+  ]
     where
       replaced : (t : List ℕ) (v w : List ℕ) (s : Scope) → value_in ((t, v) ∷ s) tag ≡ value_in ((t, v) ∷ (t, w) ∷ s) tag
       replaced t v w s = elim (cases_Bool (bytes_eq t tag)) [
-          inl here ↦ if_true (bytes_eq t tag) (Some v) (value_in s tag) here ∙ sym (if_true (bytes_eq t tag) (Some v) (value_in ((t, w) ∷ s) tag) here)
+        | inl here ↦ if_true (bytes_eq t tag) (Some v) (value_in s tag) here ∙ sym (if_true (bytes_eq t tag) (Some v) (value_in ((t, w) ∷ s) tag) here)
         | inr other ↦ if_false (bytes_eq t tag) (Some v) (value_in s tag) other ∙ sym (if_false (bytes_eq t tag) (Some w) (value_in s tag) other) ∙ sym (if_false (bytes_eq t tag) (Some v) (value_in ((t, w) ∷ s) tag) other)
-        ]
+      ]
 
       swapped : (t u v w : List ℕ) (s : Scope) → bytes_eq t u ≡ false → value_in ((u, w) ∷ (t, v) ∷ s) tag ≡ value_in ((t, v) ∷ (u, w) ∷ s) tag
       swapped t u v w s differ = elim (cases_Bool (bytes_eq t tag)) [
-          inl here ↦
+        | inl here ↦
             let other : bytes_eq u tag ≡ false = false_from_ne_true (bytes_eq u tag) (λ there. let h = (bytes_eq-Decides t u).1 (same_texts t tag here ∙ sym (same_texts u tag there)) in absurd (cc)) in
             if_false (bytes_eq u tag) (Some w) (value_in ((t, v) ∷ s) tag) other ∙ if_true (bytes_eq t tag) (Some v) (value_in s tag) here ∙ sym (if_true (bytes_eq t tag) (Some v) (value_in ((u, w) ∷ s) tag) here)
         | inr other ↦
             ap (λ o. if bytes_eq u tag then Some w else o) (if_false (bytes_eq t tag) (Some v) (value_in s tag) other) ∙ sym (if_false (bytes_eq t tag) (Some v) (value_in ((u, w) ∷ s) tag) other)
-        ]
+      ]
 
 -- ---- scopes with the same values
 
@@ -103,3 +103,17 @@ given_more prefix params left param tag value old new before at tag_is value_is 
     ∙ ap (λ t. value_in ((t, value) ∷ rest) q) tag_is
     ∙ ap (λ v. value_in ((prefix ++ param.name, v) ∷ rest) q) value_is
     ∙ ap (λ ps. value_in (parameter_tags prefix ps ++ before) q) (sym (drop_place params left param at))
+
+-- a new scope, made step by step
+pub made : (workflow name value : List ℕ) (params inputs : List Param) (first second third none : Scope) → none ≡ [] → HasValuesOf first (parameter_tags (codes "workflow.parameters.") params ++ none)
+    → name ≡ codes "workflow.name" → value ≡ workflow → HasValuesOf second ((name, value) ∷ first) → HasValuesOf third (parameter_tags (codes "inputs.parameters.") inputs ++ second)
+    → HasValuesOf third (input_tags inputs ++ workflow_tags workflow params)
+made workflow name value params inputs first second third none empty one name_is value_is two three q =
+    let front = parameter_tags (codes "inputs.parameters.") inputs in
+    let rest = parameter_tags (codes "workflow.parameters.") params in
+    let first_is : rest ++ none ≡ rest = ap (λ (s : Scope). rest ++ s) empty ∙ append-nil rest in
+    three q
+    ∙ append_alike front second ((name, value) ∷ first) two q
+    ∙ append_alike front ((name, value) ∷ first) ((name, value) ∷ rest) (cons_alike name value first rest (λ t. one t ∙ ap (λ (s : Scope). value_in s t) first_is)) q
+    ∙ ap (λ (t : List ℕ). value_in (front ++ ((t, value) ∷ rest)) q) name_is
+    ∙ ap (λ (v : List ℕ). value_in (front ++ ((codes "workflow.name", v) ∷ rest)) q) value_is

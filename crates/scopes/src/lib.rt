@@ -5,6 +5,8 @@ mod law;
 mod refused;
 mod scope;
 mod substituting;
+#[cfg(test)]
+mod tests;
 
 pub use law::same_values;
 pub use refused::SubstRefused;

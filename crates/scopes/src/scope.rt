@@ -35,7 +35,8 @@ impl Scope {
         params: &Params,
         inputs: &Params,
     ) -> Result<Scope, Memory>
-        ensures { IfOk result (λ scope. HasValuesOf scope (input_tags inputs.now ++ workflow_tags workflow.now params.now)) }
+        ensures { IfOk result (λ scope.
+            HasValuesOf scope (input_tags inputs.now ++ workflow_tags workflow.now params.now)) }
     {
         let mut scope = Scope {
             alloc,
@@ -73,7 +74,9 @@ impl Scope {
 
     // The value of a tag.
     pub(crate) fn value_of(&self, tag: &str) -> Option<&Text>
-        ensures { MatchOption result (value_in self.now tag.now ≡ None) (λ value. value_in self.now tag.now ≡ Some value.now) }
+        ensures { MatchOption result
+            (value_in self.now tag.now ≡ None)
+            (λ value. value_in self.now tag.now ≡ Some value.now) }
     {
         self.tags.get(tag)
     }

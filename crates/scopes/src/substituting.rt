@@ -12,7 +12,9 @@ use tag_text::{Piece, TagText};
 
 // What a piece says, or else the tag that has no value.
 fn said_of<'a>(scope: &'a Scope, piece: Piece<'a>) -> Result<&'a str, &'a str>
-    ensures { MatchResult result (λ front. part_said scope.now (part_of piece.entry) ≡ Ok front.now) (λ tag. part_said scope.now (part_of piece.entry) ≡ Err (note.Unresolved tag.now)) }
+    ensures { MatchResult result
+        (λ front. part_said scope.now (part_of piece.entry) ≡ Ok front.now)
+        (λ tag. part_said scope.now (part_of piece.entry) ≡ Err (note.Unresolved tag.now)) }
 {
     match piece {
         Piece::Plain(plain) => Ok(plain),
