@@ -8,6 +8,8 @@ mod numbers;
 mod refused;
 mod said;
 mod sequence;
+#[cfg(test)]
+mod tests;
 mod texts;
 
 use base_types::List;
