@@ -89,7 +89,7 @@ pub values_fault : (scope : Scope) (vs : List Value) (i : ℕ) (x : Value) (es :
     Tells view (Err fault) (said_in scope (view x)) → Tells (λ (w : Vec Value Global). items_view w.items) (Err fault) (said_in_items scope (items_view vs))
 values_fault scope vs i x es fault at is done told =
     subst (λ m. Tells (λ (w : Vec Value Global). items_view w.items) (Err fault) m) (sym (values_at scope vs i x es at is done))
-        (passes view (λ (w : Vec Value Global). items_view w.items) fault (said_in scope (view x)) (λ y. said_in_items scope (items_view (drop (i + 1) vs)) >>= λ ys. Ok (onto es (item y ys))) told)
+    (passes view (λ (w : Vec Value Global). items_view w.items) fault (said_in scope (view x)) (λ y. said_in_items scope (items_view (drop (i + 1) vs)) >>= λ ys. Ok (onto es (item y ys))) told)
 
 -- ---- maps
 
@@ -153,15 +153,15 @@ pub members_next : (scope : Scope) (done : List Entry) (es new : Members) (x : E
     said_in_members scope (members_view (done ++ x ∷ [])) ≡ Ok new
 members_next scope done es new x more d sorted done_said here is =
     members_at scope done es x [] done_said
-        ∙ ap (λ r. r >>= λ y. Ok (joined es (member (string_bytes x.0) y no_members))) here
-        ∙ ap Ok (sym (is ∙ members_put scope done es x more d sorted done_said))
+    ∙ ap (λ r. r >>= λ y. Ok (joined es (member (string_bytes x.0) y no_members))) here
+    ∙ ap Ok (sym (is ∙ members_put scope done es x more d sorted done_said))
 
 -- the first fault of a map
 pub members_fault : (scope : Scope) (done : List Entry) (es : Members) (x : Entry) (more : List Entry) (fault : FanRefused) → said_in_members scope (members_view done) ≡ Ok es →
     Tells view (Err fault) (said_in scope (view x.1)) → Tells (λ (w : BTreeMap (String Global) Value). members_view w.entries) (Err fault) (said_in_members scope (members_view (done ++ x ∷ more)))
 members_fault scope done es x more fault done_said told =
     subst (λ m. Tells (λ (w : BTreeMap (String Global) Value). members_view w.entries) (Err fault) m) (sym (members_at scope done es x more done_said))
-        (passes view (λ (w : BTreeMap (String Global) Value). members_view w.entries) fault (said_in scope (view x.1)) (λ y. said_in_members scope (members_view more) >>= λ ys. Ok (joined es (member (string_bytes x.0) y ys))) told)
+    (passes view (λ (w : BTreeMap (String Global) Value). members_view w.entries) fault (said_in scope (view x.1)) (λ y. said_in_members scope (members_view more) >>= λ ys. Ok (joined es (member (string_bytes x.0) y ys))) told)
 
 -- a text that is no text with tags
 pub said-as_it_stands : (scope : Scope) (t : List ℕ) → said scope (as_it_stands t) ≡ Ok t

@@ -1,6 +1,8 @@
 -- Numbers as a format writes them.
-use Rattle.std.proofs.Common.{rules, ◌≡◌, ℕ, suc, ◌+◌, ◌-◌, ◌<◌, ℤ, ◌+ℤ◌, map, pos, negsuc, ◌<ℤ◌, ◌≤ℤ◌, List, [], ◌∷◌, ◌++◌, length, arith, refl, sym, ◌∙◌, ap, replicate, decimal, append_assoc, nat_abs}
-use Rattle.std.specs.Prelude.{flat_map}
+use Rattle.std.proofs.Common.{rules, ◌≡◌, ℕ, suc, ◌+◌, ◌-◌, ◌<◌, Bool, true, false, ℤ, ◌+ℤ◌, ◌-ℤ◌, map, pos, negsuc, ◌<ℤ◌, ◌≤ℤ◌, List, [], ◌∷◌, ◌++◌, length, arith, refl, sym, ◌∙◌, ap, replicate, decimal, append_assoc, nat_abs}
+use Rattle.std.specs.Prelude.{flat_map, if◌then◌else◌}
+use Rattle.fanout.specs.Rows.{number_from}
+use Rattle.std.proofs.lemmas.Int.{ints}
 use Rattle.fanout.specs.Sequences.{byte, number, part_written, padded, written, numbers_from}
 use Rattle.serde_json.specs.Data.{Data}
 use Rattle.fanout.specs.Shapes.{plain, around}
@@ -33,3 +35,17 @@ row_step f count counter step z next items new total x at so_far is pushed goes_
     ∙ append_assoc items (f z ∷ []) (map f (numbers_from (count - (counter + 1)) step (z +ℤ step)))
     ∙ ap (λ n. items ++ map f (numbers_from n step z)) (sym left)
     ∙ so_far
+
+-- the places of a row
+pub number_from-next : (down : Bool) (first : ℤ) (place : ℕ) → number_from down first (place + 1) ≡ number_from down first place +ℤ (if down then negsuc 0 else pos 1)
+number_from-next true first place = omega (arith, ints)
+number_from-next false first place = omega (arith, ints)
+
+number_from-zero : (down : Bool) (first : ℤ) → number_from down first 0 ≡ first
+number_from-zero true first = omega (arith, ints)
+number_from-zero false first = omega (arith, ints)
+
+pub row_begins : (f : ℤ → Data) (count : ℕ) (down : Bool) (step first : ℤ) → map f (numbers_from (count - 0) step (number_from down first 0)) ≡ map f (numbers_from count step first)
+row_begins f count down step first =
+    let left : count - 0 ≡ count = omega arith in
+    ap (λ n. map f (numbers_from n step (number_from down first 0))) left ∙ ap (λ z. map f (numbers_from count step z)) (number_from-zero down first)

@@ -8,10 +8,14 @@ mod numbers;
 mod refused;
 mod said;
 mod sequence;
+#[cfg(test)]
+mod tests;
+mod texts;
 
 use base_types::List;
 pub use fanning::items;
 pub use refused::FanRefused;
+pub use texts::item_text;
 use wf_manifest::Json;
 
 /// The items of a loop.

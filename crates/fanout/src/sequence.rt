@@ -1,9 +1,9 @@
 //! The row of numbers that a sequence says (field reference, `Sequence`).
 
-ghost use Rattle.std.specs.Prelude.{◌≡◌, ◌≤◌, ◌^◌, IfOk, pos, negsuc, neg_ℤ, ◌≤ℤ◌, ◌+ℤ◌, ◌-ℤ◌, if◌then◌else◌};
+ghost use Rattle.std.specs.Prelude.{◌≡◌, ◌≤◌, IfOk, pos};
 ghost use Rattle.serde_json.specs.Data.{string};
 ghost use Rattle.fanout.specs.Faults.{Tells};
-ghost use Rattle.fanout.specs.Rows.{row_of, IsNear};
+ghost use Rattle.fanout.specs.Rows.{row_of, number_from, IsNear};
 ghost use Rattle.fanout.specs.Sequences.{whole_or, row_to, row_said, format_or, numbers, written};
 ghost use Rattle.fanout.specs.Items.{number_items, sequence_items as sequence_found};
 ghost use Rattle.fanout.specs.Shapes.{parts_of_shape};
@@ -90,7 +90,7 @@ pub(crate) fn sequence_items(
     if row.count > MOST_ITEMS as u64 {
         return Err(FanRefused::TooManyItems);
     }
-    Ok(write_row(alloc, &format, row)?)
+    Ok(write_row(alloc, &format, &row)?)
 }
 
 fn format_or_plain(alloc: Global, format: &Option<Text>) -> Result<Format, FanRefused>
@@ -102,18 +102,24 @@ fn format_or_plain(alloc: Global, format: &Option<Text>) -> Result<Format, FanRe
     }
 }
 
-fn write_row(alloc: Global, format: &Format, row: Row) -> Result<Items, Memory>
-    requires near { IsNear row.first }
-    requires few { row.count ≤ 1000 }
-    ensures { IfOk result (λ items. items ≡ number_items (parts_of_shape format.now, numbers (row_of row))) }
+fn write_row(alloc: Global, format: &Format, row: &Row) -> Result<Items, Memory>
+    requires near { IsNear row.now.first }
+    requires few { row.now.count ≤ 1000 }
+    ensures { IfOk result (λ items. items ≡ number_items (parts_of_shape format.now, numbers (row_of row.now))) }
 {
     let mut items = Items::with_capacity(alloc, row.count as usize)?;
-    let mut number = row.first;
-    for _ in 0..row.count {
-        items.push(number_item(format, number)?)?;
-        number = following(number, row.down);
+    for place in 0..row.count {
+        items.push(row_item(format, row, place)?)?;
     }
     Ok(items)
+}
+
+fn row_item(format: &Format, row: &Row, place: u64) -> Result<Json, Memory>
+    requires near { IsNear row.now.first }
+    requires few { place ≤ 1000 }
+    ensures { IfOk result (λ item. item ≡ string (written (parts_of_shape format.now) (number_from row.now.down row.now.first place))) }
+{
+    number_item(format, number_at(row.first, row.down, place))
 }
 
 fn number_item(format: &Format, number: i64) -> Result<Json, Memory>
@@ -123,12 +129,14 @@ fn number_item(format: &Format, number: i64) -> Result<Json, Memory>
     Ok(Json::new(Value::String(text.into_string())))
 }
 
-fn following(number: i64, down: bool) -> i64
-    requires low { neg_ℤ (pos (2 ^ 62)) ≤ℤ number }
-    requires high { number ≤ℤ pos (2 ^ 62) }
-    ensures step { result ≡ number +ℤ (if down then negsuc 0 else pos 1) }
-    ensures low { (number -ℤ pos 1) ≤ℤ result }
-    ensures high { result ≤ℤ (number +ℤ pos 1) }
+fn number_at(first: i64, down: bool, place: u64) -> i64
+    requires near { IsNear first }
+    requires few { place ≤ 1000 }
+    ensures { result ≡ number_from down first place }
 {
-    if down { number - 1 } else { number + 1 }
+    if down {
+        first - place as i64
+    } else {
+        first + place as i64
+    }
 }

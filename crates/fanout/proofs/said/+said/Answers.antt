@@ -1,4 +1,5 @@
-use Rattle.std.proofs.Common.{◌≡◌, Ok, Err, [], ◌∷◌, ◌++◌, string_bytes, sym, ap, ◌∙◌, subst, append_assoc}
+use Rattle.std.proofs.Common.{◌≡◌, Ok, Err, [], ◌∷◌, ◌++◌, string_bytes, sym, ap, ◌∙◌, subst, append_assoc, Vec, Global}
+use Rattle.serde_json.specs.declared.value.Value.{Value}
 use Rattle.std.specs.List.Sorted.{IsStrictlySortedBy}
 use Rattle.std.specs.Map.{keys_of}
 use Rattle.std.specs.String.{string_cmp}
@@ -13,13 +14,17 @@ use Rattle.fanout.proofs.said.+said.Goals as goal
 pub said_values-returns-in-Err : goal.said_values-returns-in-Err
 said_values-returns-in-Err t c =
     let l = c.loop-value in
-    values_fault c.args.scope.now c.deref-value-items.result.now l.value-index c.value-item.result (items_view l.said.items) c.in-Err.fault c.loop-value-test.true c.value-item.is l.invariant c.in-Err.ensures
+    let told = values_fault c.args.scope.now c.deref-value-items.result.now l.value-index c.value-item.result (items_view l.said.items) c.in-Err.fault c.loop-value-test.true c.value-item.is l.invariant c.in-Err.ensures in
+    subst
+    (λ xs. Tells (λ (w : Vec Value Global). items_view w.items) (Err c.in-Err.fault) (said_in_items c.args.scope.now (items_view xs)))
+    c.deref-value-items.ensures.value
+    told
 
 pub said_values-loop-value-preserved : goal.said_values-loop-value-preserved
 said_values-loop-value-preserved t c =
     let l = c.loop-value in
     values_next c.args.scope.now c.deref-value-items.result.now l.said.items l.value-index c.value-item.result c.in-Ok.value c.loop-value-test.true c.value-item.is l.invariant c.in-Ok.ensures
-        ∙ ap (λ xs. Ok (items_view xs)) (sym c.in_ok-push-in-Ok.ensures.items)
+    ∙ ap (λ xs. Ok (items_view xs)) (sym c.in_ok-push-in-Ok.ensures.items)
 
 pub said_members-returns-in-Err : goal.said_members-returns-in-Err
 said_members-returns-in-Err t c =
@@ -41,9 +46,9 @@ said_members-loop-key-preserved t c =
     let named : string_bytes c.in_ok-name.name ≡ string_bytes e.0 = c.in_ok-name.ensures.cases in
     let value = c.in-Ok.value in
     let now : members_view c.insert.new.self.entries ≡ put (string_bytes e.0) (view value) (members_view l.said.entries) =
-        ap members_view c.in_ok-insert-in-Ok.ensures.entries
-            ∙ members_view-insert_entry l.said.entries c.in_ok-name.name value
-            ∙ ap (λ k. put k (view value) (members_view l.said.entries)) named in (
+    ap members_view c.in_ok-insert-in-Ok.ensures.entries
+    ∙ members_view-insert_entry l.said.entries c.in_ok-name.name value
+    ∙ ap (λ k. put k (view value) (members_view l.said.entries)) named in (
       done ++ e ∷ [],
       all ∙ sym (append_assoc done (e ∷ []) left),
       members_next c.args.scope.now done (members_view l.said.entries) (members_view c.insert.new.self.entries) e left (view value) sorted l.invariant.2 c.in-Ok.ensures now,
