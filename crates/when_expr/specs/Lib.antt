@@ -4,3 +4,4 @@ pub mod Symbols
 pub mod Reading
 pub mod Grammar
 pub mod Postfix
+pub mod Drafts
