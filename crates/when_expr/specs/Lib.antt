@@ -5,3 +5,4 @@ pub mod Reading
 pub mod Grammar
 pub mod Postfix
 pub mod Drafts
+pub mod Values

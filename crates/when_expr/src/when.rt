@@ -1,13 +1,15 @@
 //! What a `when` says.
 
-ghost use Rattle.std.specs.Prelude.{◌≡◌, ◌≢◌, ℕ, ◌≤◌, IfOk, IfErr};
+ghost use Rattle.std.specs.Prelude.{◌≡◌, ◌≢◌, ℕ, ◌≤◌, Ok, Some, None, Bool, IfOk, IfErr, IsErr};
 ghost use Rattle.when_expr.specs.declared.refused.WhenRefused.TheVariants as refused;
 ghost use Rattle.when_expr.specs.Grammar.{IsWhen, IsBadAt};
 ghost use Rattle.when_expr.specs.Postfix.{peak};
+ghost use Rattle.when_expr.specs.Truth.{truth};
 
-use crate::WhenRefused;
+use crate::evaluation::evaluate;
 use crate::reading::read;
 use crate::steps::{Draft, Step};
+use crate::{NotNumbers, WhenRefused};
 use base_types::{List, Memory, TryCopy};
 use std::alloc::Global;
 use std::marker::Model;
@@ -60,4 +62,22 @@ pub fn parse_when(alloc: Global, text: &str) -> Result<When, WhenRefused>
 {
     let draft = read(alloc, text.as_bytes())?;
     Ok(from_draft(draft))
+}
+
+/// The truth of a condition: operands are evaluated from the left, stopping early.
+pub fn eval(when: &When) -> Result<bool, NotNumbers>
+    ensures ok { (value : Bool) → truth when.now ≡ Some value → result ≡ Ok value }
+    // An order test was reached with a side that is not a whole number.
+    ensures err { truth when.now ≡ None → IsErr result }
+{
+    match value_of(when) {
+        Some(value) => Ok(value),
+        None => Err(NotNumbers),
+    }
+}
+
+fn value_of(when: &When) -> Option<bool>
+    ensures { result ≡ truth when.now }
+{
+    evaluate(when.steps.as_slice())
 }
