@@ -6,3 +6,5 @@ pub mod Fronts
 pub mod Postfixes
 pub mod Peaks
 pub mod Negations
+pub mod Evaluations
+pub mod Digits

@@ -1,5 +1,5 @@
 -- Steps in postfix order build the condition that they are of.
-use Rattle.std.specs.Prelude.{◌≡◌, ℕ, List, [], ◌∷◌, ◌++◌, refl}
+use Rattle.std.specs.Prelude.{◌≡◌, ◌≤◌, ℕ, List, [], ◌∷◌, ◌++◌, refl}
 use Rattle.std.proofs.Common.{ap, sym, ◌∙◌, append_assoc, append-nil}
 use Rattle.when_expr.specs.declared.steps.Step.{Step}
 use Rattle.when_expr.specs.declared.steps.Step.TheVariants.{Literal, Test, Not, And, Or}
@@ -8,7 +8,7 @@ use Rattle.when_expr.specs.declared.steps.Comparison.TheVariants as o
 use Rattle.when_expr.specs.declared.steps.Side.{Side}
 use Rattle.when_expr.specs.declared.steps.Side.TheVariants as s
 use Rattle.when_expr.specs.Expression.{Order, equal, unequal, below, at_most, above, at_least, Term, quoted, word, Condition, literal, test, negated, all_of, any_of}
-use Rattle.when_expr.specs.Postfix.{order_of, comparison_of, term_of, side_of, postfix, build, built, top, condition_of}
+use Rattle.when_expr.specs.Postfix.{order_of, comparison_of, term_of, side_of, postfix, build, built, top, condition_of, peak, IsWhole}
 
 order_again : (o : Order) → order_of (comparison_of o) ≡ o
 order_again equal = refl
@@ -70,3 +70,6 @@ comparison_again o.AtLeast = refl
 
 pub test_steps : (c : List Step) (l : Side) (m : Comparison) (r : Side) → c ≡ Test l m r ∷ [] → Build c (test (term_of l) (order_of m) (term_of r))
 test_steps c l m r p = are_steps c _ (p ∙ λ i. Test (sym (side_again l) i) (sym (comparison_again m) i) (sym (side_again r) i) ∷ [])
+
+pub draft_whole : (xs : List Step) → AreSteps xs → peak (condition_of xs) ≤ 131 → IsWhole xs
+draft_whole xs a l = record { whole = a; low = l }

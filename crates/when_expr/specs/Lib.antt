@@ -4,3 +4,5 @@ pub mod Symbols
 pub mod Reading
 pub mod Grammar
 pub mod Postfix
+pub mod Drafts
+pub mod Values

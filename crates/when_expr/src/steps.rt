@@ -5,7 +5,7 @@ ghost use Rattle.std.specs.Prelude.{◌≡◌, ◌++◌, ◌∷◌, [], IfOk};
 ghost use Rattle.when_expr.specs.Expression.{literal, test, negated, all_of, any_of};
 ghost use Rattle.when_expr.specs.Postfix.{term_of, order_of};
 
-use base_types::{Memory, Text, TryCopy};
+use base_types::{Bytes, Memory, TryCopy};
 use std::alloc::Global;
 use std::marker::Model;
 
@@ -23,15 +23,21 @@ pub(crate) enum Comparison {
 /// A side of a test.
 #[derive(Drop)]
 pub(crate) enum Side {
-    Quoted(Text),
-    Word(Text),
+    Quoted(Bytes),
+    Word(Bytes),
+}
+
+fn copy_of(bytes: &Bytes) -> Result<Bytes, Memory>
+    ensures { IfOk result (λ copy. copy ≡ bytes.now) }
+{
+    Bytes::from_slice(bytes.allocator(), bytes.as_slice())
 }
 
 impl TryCopy for Side {
     fn copy(&self) -> Result<Side, Memory> {
         match self {
-            Side::Quoted(text) => Ok(Side::Quoted(text.copy()?)),
-            Side::Word(text) => Ok(Side::Word(text.copy()?)),
+            Side::Quoted(text) => Ok(Side::Quoted(copy_of(text)?)),
+            Side::Word(text) => Ok(Side::Word(copy_of(text)?)),
         }
     }
 }
