@@ -30,133 +30,7 @@ use Rattle.growth.proofs.Keeping.{not_both, AllKept, Later, Grew, Begun, begun_b
 use Rattle.growth.proofs.Paths.{paths}
 use Rattle.growth.proofs.SoundBodies.{task_at, task_ways, tasks_laid, Sound, StandSound, rounds_sound, lines_proper}
 use Rattle.growth.proofs.GrowingBodies.{Growing, fair_under}
-
--- ---- how a task stands depends only on how the tasks that it names stand
-
--- two looks agree on some names
-abbrev Agree : Look → Look → List (List ℕ) → Type 0
-Agree a b [] = Unit {0}
-Agree a b (n ∷ ns) = (a n ≡ b n) × Agree a b ns
-
-agree_left : (a b : Look) (ns ms : List (List ℕ)) → Agree a b (ns ++ ms) → Agree a b ns
-agree_left a b [] ms h = tt
-agree_left a b (n ∷ ns) ms h = (h.0, agree_left a b ns ms h.1)
-
-agree_right : (a b : Look) (ns ms : List (List ℕ)) → Agree a b (ns ++ ms) → Agree a b ms
-agree_right a b [] ms h = h
-agree_right a b (n ∷ ns) ms h = agree_right a b ns ms h.1
-
-over_same : (a b : Look) (ns : List (List ℕ)) → Agree a b ns → list_all (λ n. is_over (a n)) ns ≡ list_all (λ n. is_over (b n)) ns
-over_same a b [] h = refl
-over_same a b (n ∷ ns) h = λ i. is_over (h.0 i) && over_same a b ns h.1 i
-
-branches_same : (a b : Look) (ns : List (List ℕ)) → Agree a b ns → map (λ n. branch_of (a n)) ns ≡ map (λ n. branch_of (b n)) ns
-branches_same a b [] h = refl
-branches_same a b (n ∷ ns) h = λ i. branch_of (h.0 i) ∷ branches_same a b ns h.1 i
-
-tags_same : (a b : Look) (ns : List (List ℕ)) → Agree a b ns → tags_before a ns ≡ tags_before b ns
-tags_same a b [] h = refl
-tags_same a b (n ∷ ns) h = λ i. tags_up_to n (h.0 i) ++ tags_same a b ns h.1 i
-
-abbrev truth_at : Look → Expression → Bool
-truth_at a e = truth (λ n. result_of (a n)) e
-
-truth_same : (a b : Look) (e : Expression) → Agree a b (named e) → truth_at a e ≡ truth_at b e
-truth_same a b (bare n) h = ap (λ (s : Standing). bare_holds (result_of s)) h.0
-truth_same a b (has n w) h = ap (λ (s : Standing). holds (result_of s) w) h.0
-truth_same a b (negation e) h = ap not (truth_same a b e h)
-truth_same a b (both d e) h = λ i. truth_same a b d (agree_left a b (named d) (named e) h) i && truth_same a b e (agree_right a b (named d) (named e) h) i
-truth_same a b (either d e) h = λ i. truth_same a b d (agree_left a b (named d) (named e) h) i || truth_same a b e (agree_right a b (named d) (named e) h) i
-
-abbrev all_over : Look → Expression → Bool
-all_over a e = list_all (λ n. is_over (a n)) (named e)
-
-module _ (A : Answers) (run : Runner) (p : Place) (s : Scope) (d : Dag) where
-  decided_same : (a b : Look) (k : ℕ) (t : Task) (e : Expression) (c : Bool) → Agree a b (named e) → decided_by A run p s d a k t e c ≡ decided_by A run p s d b k t e c
-  decided_same a b k t e true h = ap (λ (x : Scope). free A run p s d x k t) (tags_same a b (named e) h)
-  decided_same a b k t e false h = λ i. omitted A run p s d (worst_of (branches_same a b (named e) h i)) (tags_same a b (named e) h i) k t
-
-  waits_same : (a b : Look) (k : ℕ) (t : Task) (e : Expression) (c : Bool) → Agree a b (named e) → waits_by A run p s d a k t e c ≡ waits_by A run p s d b k t e c
-  waits_same a b k t e false h = refl
-  waits_same a b k t e true h = decided_same a b k t e (truth_at a e) h ∙ ap (decided_by A run p s d b k t e) (truth_same a b e h)
-
-  pub awaited_same : (a b : Look) (k : ℕ) (t : Task) (e : Expression) → Agree a b (named e) → meant A run p s d a k t (Some e) ≡ meant A run p s d b k t (Some e)
-  awaited_same a b k t e h = waits_same a b k t e (all_over a e) h ∙ ap (waits_by A run p s d b k t e) (over_same a b (named e) h)
-
--- ---- relations of standings
-
--- a relation between standings that makes of what is over the same
-record Keeps (R : Standing → Standing → Type 0) : Type 0 where
-  over : (s u : Standing) → R s u → is_over s ≡ true → u ≡ s
-
--- how one look is related to another
-keeps_agree : (R : Standing → Standing → Type 0) (a b : Look) (ns : List (List ℕ)) → Keeps R → ((n : List ℕ) → R (a n) (b n)) → list_all (λ n. is_over (a n)) ns ≡ true → Agree b a ns
-keeps_agree R a b [] k h e = tt
-keeps_agree R a b (n ∷ ns) k h e = let two = both_true (is_over (a n)) (list_all (λ m. is_over (a m)) ns) e in (k.over (a n) (b n) (h n) two.0, keeps_agree R a b ns k h two.1)
-
--- of one task, and related
-abbrev Related : (Standing → Standing → Type 0) → ℕ → Task × Standing → Task × Standing → Type 0
-Related R i s u = (u.0 ≡ s.0) × R s.1 u.1
-
-look_related : (R : Standing → Standing → Type 0) (i : ℕ) (ss us : Standings) → R waiting waiting → Pairs (Related R) i ss us → (n : List ℕ) → R (look ss n) (look us n)
-look_related R i [] [] w h n = w
-look_related R i [] (u ∷ us) w h n = absurd h
-look_related R i (s ∷ ss) [] w h n = absurd h
-look_related R i (s ∷ ss) (u ∷ us) w h n = subst (λ (x : Task). R (cond (bytes_eq s.0.call.name n) s.1 (look ss n)) (cond (bytes_eq x.call.name n) u.1 (look us n))) (sym h.0.0) (go (bytes_eq s.0.call.name n) (look_related R (suc i) ss us w h.1 n))
-  where
-    go : (c : Bool) → R (look ss n) (look us n) → R (cond c s.1 (look ss n)) (cond c u.1 (look us n))
-    go true r = h.0.1
-    go false r = r
-
--- ---- a later round of one DAG knows more
-
--- what the first says, the second says too
-abbrev Knows : Standing → Standing → Type 0
-Knows waiting u = Unit {0}
-Knows ready u = u ≡ ready
-Knows (exists m b s) u = u ≡ exists m b s
-
-knows_same : (s u : Standing) → u ≡ s → Knows s u
-knows_same waiting u e = tt
-knows_same ready u e = e
-knows_same (exists m b s) u e = e
-
-knows_over : (s u : Standing) → Knows s u → is_over s ≡ true → u ≡ s
-knows_over waiting u h e = not_both false e refl
-knows_over ready u h e = not_both false e refl
-knows_over (exists m b s) u h e = h
-
-knows_keep : Keeps Knows
-knows_keep = record { over = knows_over }
-
-module _ (A : Answers) (run : Runner) (p : Place) (s : Scope) (d : Dag) where
-  abbrev stood : Look → ℕ → Task → Standing
-  stood a k t = standing A run p s d a k t
-
-  abbrev pub round : ℕ → Standings
-  round n = rounds A run p s d n
-
-  waits_knows : (a b : Look) (k : ℕ) (t : Task) (e : Expression) (c : Bool) → all_over a e ≡ c → ((n : List ℕ) → Knows (a n) (b n)) → Knows (waits_by A run p s d a k t e c) (meant A run p s d b k t (Some e))
-  waits_knows a b k t e false o h = tt
-  waits_knows a b k t e true o h = knows_same _ _ (awaited_same A run p s d b a k t e (keeps_agree Knows a b (named e) knows_keep h o) ∙ ap (waits_by A run p s d a k t e) o)
-
-  awaited_knows : (a b : Look) (k : ℕ) (t : Task) (w : Option Expression) → ((n : List ℕ) → Knows (a n) (b n)) → Knows (meant A run p s d a k t w) (meant A run p s d b k t w)
-  awaited_knows a b k t None h = knows_same _ _ refl
-  awaited_knows a b k t (Some e) h = waits_knows a b k t e (all_over a e) refl h
-
-  meant_knows : (a b : Look) (k : ℕ) (t : Task) (c : Bool) → ((n : List ℕ) → Knows (a n) (b n)) → Knows (meant_by A run p s d a k t c) (meant_by A run p s d b k t c)
-  meant_knows a b k t false h = tt
-  meant_knows a b k t true h = awaited_knows a b k t (awaited d.tasks t) h
-
-  -- each round knows what the one before it knew
-  round_knows : (n : ℕ) (name : List ℕ) → Knows (look (round n) name) (look (round (suc n)) name)
-  round_knows zero name = tt
-  round_knows (suc n) name = look_related Knows 0 (round (suc n)) (round (suc (suc n))) tt (pairs_from (with_standing A run p s d (look (round n))) (with_standing A run p s d (look (round (suc n)))) (λ k x. Unit {0}) (Related Knows) 0 d.tasks (λ k t q. (refl, meant_knows (look (round n)) (look (round (suc n))) k t (is_meant d t) (round_knows n))) (all_numbered (with_standing A run p s d (look (round n))) (λ k x. Unit {0}) 0 d.tasks (λ k t. tt))) name
-
-  -- what holds of a round, if it is passed down to those that know no more, holds of the one before
-  pub round_down : (R : ℕ → Task × Standing → Type 0) → ((k : ℕ) (t : Task) (x u : Standing) → Knows x u → R k (t, u) → R k (t, x)) → (n : ℕ) → All R 0 (round (suc n)) → All R 0 (round n)
-  round_down R f zero h = tt
-  round_down R f (suc n) h = all_between (with_standing A run p s d (look (round (suc n)))) (with_standing A run p s d (look (round n))) R R 0 d.tasks (λ k t r. f k t (stood (look (round n)) k t) (stood (look (round (suc n))) k t) (meant_knows (look (round n)) (look (round (suc n))) k t (is_meant d t) (round_knows n)) r) h
+use Rattle.growth.proofs.DagRounds.{Keeps, keeps_agree, look_related, Agree, Related, truth_at, all_over, Knows, awaited_same, round_down, AllStand, rounds_stay}
 
 -- ---- under later answers
 
@@ -321,55 +195,6 @@ module _ (A B : Answers) (g : SaysMore A B) (run ran : Runner) (sound : Sound pa
   line_fair true k t (exists m b s) f = fair_under A B run ran sound grows p.sels (task_at k) m.lines f
   line_fair false k t (exists m b s) f = fair_under A B run ran sound grows p.sels (task_at k) m.lines f
 
-  -- ---- a DAG that is over stays
-
-  rest_down : (k : ℕ) (t : Task) (x u : Standing) → Knows x u → is_at_rest u ≡ true → is_at_rest x ≡ true
-  rest_down k t waiting u h e = refl
-  rest_down k t ready u h e = refl
-  rest_down k t (exists m b s) u h e = ap is_at_rest (sym h) ∙ e
-
-  abbrev Rests : ℕ → Task × Standing → Type 0
-  Rests k x = StandFair k x.0 x.1 × (is_at_rest x.1 ≡ true)
-
-  rests_down : (k : ℕ) (t : Task) (x u : Standing) → Knows x u → Rests k (t, u) → Rests k (t, x)
-  rests_down k t x u h r = (fair_down k t x u h r.0, rest_down k t x u h r.1)
-
-  module _ (begun : (k : ℕ) (t : Task) → (not d.fail_fast || B.begun (task_place p k t).sels) ≡ (not d.fail_fast || A.begun (task_place p k t).sels)) where
-    abbrev Stays : ℕ → Task → Standing → Standing → Type 0
-    Stays k t x u = StandFair k t x → is_at_rest x ≡ true → u ≡ x
-
-    free_by_rests : (seen : Scope) (k : ℕ) (t : Task) (x : Bool) → Stays k t (free_by A run p scope d seen k t x) (free_by B ran p scope d seen k t x)
-    free_by_rests seen k t false f e = refl
-    free_by_rests seen k t true f e = ap (λ (m : Made). exists m (covered t.call.continue_on m.phase) seen) ((grows (codes "tasks.") (task_place p k t) (seen ++ scope) t.call f).later.done e)
-
-    free_rests : (seen : Scope) (k : ℕ) (t : Task) → Stays k t (free A run p scope d seen k t) (free B ran p scope d seen k t)
-    free_rests seen k t f e = ap (free_by B ran p scope d seen k t) (begun k t) ∙ free_by_rests seen k t _ f e
-
-    decided_rests : (a : Look) (k : ℕ) (t : Task) (e : Expression) (c : Bool) → Stays k t (decided_by A run p scope d a k t e c) (decided_by B ran p scope d a k t e c)
-    decided_rests a k t e false f r = refl
-    decided_rests a k t e true f r = free_rests (tags_before a (named e)) k t f r
-
-    waits_rests : (a : Look) (k : ℕ) (t : Task) (e : Expression) (c : Bool) → Stays k t (waits_by A run p scope d a k t e c) (waits_by B ran p scope d a k t e c)
-    waits_rests a k t e false f r = refl
-    waits_rests a k t e true f r = decided_rests a k t e _ f r
-
-    awaited_rests : (a : Look) (k : ℕ) (t : Task) (w : Option Expression) → Stays k t (meant A run p scope d a k t w) (meant B ran p scope d a k t w)
-    awaited_rests a k t None f r = free_rests [] k t f r
-    awaited_rests a k t (Some e) f r = waits_rests a k t e _ f r
-
-    meant_rests : (a : Look) (k : ℕ) (t : Task) (c : Bool) → Stays k t (meant_by A run p scope d a k t c) (meant_by B ran p scope d a k t c)
-    meant_rests a k t false f r = refl
-    meant_rests a k t true f r = awaited_rests a k t (awaited d.tasks t) f r
-
-    from_rests : (a : Look) (i : ℕ) (ts : List Task) → All Rests i (numbered (with_standing A run p scope d a) i ts) → numbered (with_standing B ran p scope d a) i ts ≡ numbered (with_standing A run p scope d a) i ts
-    from_rests a i [] h = refl
-    from_rests a i (t ∷ ts) h = λ j. (t, meant_rests a i t (is_meant d t) h.0.0 h.0.1 j) ∷ from_rests a (suc i) ts h.1 j
-
-    -- a DAG of which every existing task is finished stays, if it begins no further task
-    rounds_rest : (n : ℕ) → All Rests 0 (before n) → now n ≡ before n
-    rounds_rest zero h = refl
-    rounds_rest (suc n) h = ap (λ (x : Standings). numbered (with_standing B ran p scope d (look x)) 0 d.tasks) (rounds_rest n (round_down A run p scope d Rests rests_down n h)) ∙ from_rests (look (before n)) 0 d.tasks h
-
   -- ---- the DAG
 
   same_begun : (x a b : Bool) → (a ≡ true → b ≡ true) → (b ≡ true → a ≡ false → ⊥) → (x || b) ≡ (x || a)
@@ -405,9 +230,25 @@ module _ (A B : Answers) (g : SaysMore A B) (run ran : Runner) (sound : Sound pa
   not_going_on false true e f = absurd (cc e)
   not_going_on false false e f = refl
 
-  both_hold : (i : ℕ) (us : Standings) → All FairAt i us → All (λ k x. is_at_rest x.1 ≡ true) i us → All Rests i us
-  both_hold i [] f r = tt
-  both_hold i (u ∷ us) f r = ((f.0, r.0), both_hold (suc i) us f.1 r.1)
+  -- a task that is finished, and below which what newly begins may begin
+  abbrev Settled_ : ℕ → Task → Made → Type 0
+  Settled_ k t m = Fair (New A B) (Under (task_place p k t).sels) m.lines × (m.finished ≡ true)
+
+  settled_same : (seen : Scope) (k : ℕ) (t : Task) → Settled_ k t (run (codes "tasks.") (task_place p k t) (seen ++ scope) t.call) → ran (codes "tasks.") (task_place p k t) (seen ++ scope) t.call ≡ run (codes "tasks.") (task_place p k t) (seen ++ scope) t.call
+  settled_same seen k t h = (grows (codes "tasks.") (task_place p k t) (seen ++ scope) t.call h.0).later.done h.1
+
+  module _ (begun : (k : ℕ) (t : Task) → (not d.fail_fast || B.begun (task_place p k t).sels) ≡ (not d.fail_fast || A.begun (task_place p k t).sels)) where
+    both_stand : (k : ℕ) (t : Task) (x : Standing) → StandFair k t x → is_at_rest x ≡ true → AllStand A B run ran p scope d Settled_ settled_same begun k (t, x)
+    both_stand k t waiting f r = tt
+    both_stand k t ready f r = tt
+    both_stand k t (exists m b s) f r = (f, r)
+
+    both_hold : (i : ℕ) (us : Standings) → All FairAt i us → All (λ k x. is_at_rest x.1 ≡ true) i us → All (AllStand A B run ran p scope d Settled_ settled_same begun) i us
+    both_hold i [] f r = tt
+    both_hold i (u ∷ us) f r = (both_stand i u.0 u.1 f.0 r.0, both_hold (suc i) us f.1 r.1)
+
+    rounds_rest : (n : ℕ) → All FairAt 0 (before n) → AllRest (before n) ≡ true → now n ≡ before n
+    rounds_rest n f e = rounds_stay A B run ran p scope d Settled_ settled_same begun n (both_hold 0 (before n) f (all_rest 0 (before n) e))
 
   -- a DAG that is over begins no further task, and stays
   over_stays : All FairAt 0 ss → Fair (New A B) (From task_at p.sels 0) (dag_lines doomed p ss) → dag_over d ss ≡ true → standings B ran p scope d ≡ ss
@@ -415,7 +256,7 @@ module _ (A B : Answers) (g : SaysMore A B) (run ran : Runner) (sound : Sound pa
       let two = both_true (AllRest ss) (not (may_go_on d ss)) e in
       let deep : Proper A (Deep p.sels) (dag_lines doomed p ss) = rows_in (tasks_laid doomed p) A (Deep p.sels) 0 ss (all_deep doomed 0 ss (not_going_on doomed (list_any (λ s. is_ready s.1) ss) two.1) (rounds_sound paths A run sound p scope d (length d.tasks))) in
       let none = λ (k : ℕ) (t : Task) (b : B.begun (task_place p k t).sels ≡ true) (a : A.begun (task_place p k t).sels ≡ false). child_not_deep p.sels (task_at k) (proper_holds A (Deep p.sels) (task_place p k t).sels (dag_lines doomed p ss) deep (f (task_place p k t).sels (k, [], omega arith, refl) (b, a))) in
-      rounds_rest (λ k t. same_begun (not d.fail_fast) (A.begun (task_place p k t).sels) (B.begun (task_place p k t).sels) (g.begun (task_place p k t).sels) (none k t)) (length d.tasks) (both_hold 0 ss fair (all_rest 0 ss two.0))
+      rounds_rest (λ k t. same_begun (not d.fail_fast) (A.begun (task_place p k t).sels) (B.begun (task_place p k t).sels) (g.begun (task_place p k t).sels) (none k t)) (length d.tasks) fair two.0
 
   abbrev dag_node : List OutputDecl → Standings → Node
   dag_node ds us = ending p kind.DAG (dag_phase d us) note.None no_outputs (computed (dag_tags us ++ scope) ds)

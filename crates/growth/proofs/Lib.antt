@@ -6,9 +6,11 @@ pub mod SoundBodies
 pub mod SoundCalls
 pub mod Paths
 pub mod GrowingBodies
+pub mod DagRounds
 pub mod GrowingDags
 pub mod GrowingCalls
 pub mod GrowingTrees
 pub mod Journals
 pub mod GrowingJournals
 pub mod Counting
+pub mod Ticks
