@@ -1,5 +1,6 @@
 pub mod Expression
 pub mod Truth
+pub mod Symbols
 pub mod Reading
 pub mod Grammar
-pub mod View
+pub mod Postfix

@@ -1,0 +1,12 @@
+-- The row of numbers that a call gives, beside the row that is meant.
+use Rattle.std.specs.Prelude.{ℕ, ℤ, pos, negsuc, neg_ℤ, ◌^◌, ◌≤ℤ◌, if◌then◌else◌}
+use Rattle.fanout.specs.Sequences as meant
+use Rattle.fanout.specs.declared.sequence.Row.{Row}
+
+abbrev pub row_of : Row → meant.Row
+row_of r = record { count = r.count; step = if r.down then negsuc 0 else pos 1; first = r.first }
+
+-- a number of a sequence: from minus to plus 1,000,000,000,000
+pub record IsNear (z : ℤ) : Type 0 where
+  pub low : neg_ℤ (pos (10 ^ 12)) ≤ℤ z
+  pub high : z ≤ℤ pos (10 ^ 12)

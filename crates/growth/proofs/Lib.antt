@@ -1,0 +1,14 @@
+pub mod Rows
+pub mod Lines
+pub mod Keeping
+pub mod Geometry
+pub mod SoundBodies
+pub mod SoundCalls
+pub mod Paths
+pub mod GrowingBodies
+pub mod GrowingDags
+pub mod GrowingCalls
+pub mod GrowingTrees
+pub mod Journals
+pub mod GrowingJournals
+pub mod Counting
