@@ -3,7 +3,7 @@
 -- AnyString.
 use Rattle.std.specs.Prelude.{ℕ, ℤ, List, Bool, true, false, Option, Some, None, codes, decimal, option_and_then}
 use Rattle.std.specs.Fmt.{signed_decimal}
-use Rattle.serde_json.specs.Data.{Data, null, boolean, number, string, array, object, Items, Num, unsigned, negative, float}
+use Rattle.serde_json.specs.Data.{Data, boolean, number, string, array, object, Items, unsigned, negative}
 use Rattle.serde_json.specs.Find.{as_i64, as_number}
 
 abbrev pub text : Data → Option (List ℕ)
