@@ -244,7 +244,7 @@ half_and_holds : (T r : Text) (b : ℕ) (e : Expression) (sum : Option Expressio
 half_and_holds T r b e sum outer room s p a =
     cond_both (b == 38) (Some (wants (record { level = record { sum = sum; product = Some e; begun = room; room = room }; outer = outer }))) None (λ x. x ≡ Some s → Holds T s r)
     (λ same p. subst (λ x. Holds T x r) (some_same p)
-        (record { begun = room; from = a.from; around = a.around; within = inside a.before (some_product (subst (λ x. And room a.last e (38 ∷ (x ∷ r))) (eqb-true b 38 same) a.chain) no_space) no_not }))
+    (record { begun = room; from = a.from; around = a.around; within = inside a.before (some_product (subst (λ x. And room a.last e (38 ∷ (x ∷ r))) (eqb-true b 38 same) a.chain) no_space) no_not }))
     (λ _ p. absurd (none_some p))
     p
 
@@ -252,7 +252,7 @@ half_or_holds : (T r : Text) (b : ℕ) (e : Expression) (sum : Option Expression
 half_or_holds T r b e sum outer room s p a =
     cond_both (b == 124) (Some (wants (record { level = record { sum = Some (plus sum e); product = None; begun = room; room = room }; outer = outer }))) None (λ x. x ≡ Some s → Holds T s r)
     (λ same p. subst (λ x. Holds T x r) (some_same p)
-        (record { begun = room; from = a.from; around = a.around; within = inside (some_sum (subst (λ x. Or room a.from (plus sum e) (124 ∷ (x ∷ r))) (eqb-true b 124 same) (sum_close a.before e _ a.chain)) no_space) no_product no_not }))
+    (record { begun = room; from = a.from; around = a.around; within = inside (some_sum (subst (λ x. Or room a.from (plus sum e) (124 ∷ (x ∷ r))) (eqb-true b 124 same) (sum_close a.before e _ a.chain)) no_space) no_product no_not }))
     (λ _ p. absurd (none_some p))
     p
 

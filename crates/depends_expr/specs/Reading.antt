@@ -62,12 +62,12 @@ pub record Around : Type 0 where
   pub outer : List Level
 
 pub data State : Type 0 where
-  wants : Around → State                                                   -- an operand is to come
-  in_name : Text → Around → State                                          -- inside a name
-  in_result : Text → Text → Around → State                                 -- inside the result of a name
-  done : Expression → Option Expression → List Level → ℕ → State           -- behind an operand: what the last `&&`s join
-  half_and : Expression → Option Expression → List Level → ℕ → State       -- behind one `&`
-  half_or : Expression → Option Expression → List Level → ℕ → State        -- behind one `|`
+  wants : Around → State  -- an operand is to come
+  in_name : Text → Around → State  -- inside a name
+  in_result : Text → Text → Around → State  -- inside the result of a name
+  done : Expression → Option Expression → List Level → ℕ → State  -- behind an operand: what the last `&&`s join
+  half_and : Expression → Option Expression → List Level → ℕ → State  -- behind one `&`
+  half_or : Expression → Option Expression → List Level → ℕ → State  -- behind one `|`
 
 abbrev pub fresh : ℕ → Level
 fresh room = record { sum = None; product = None; begun = room; room = room }

@@ -9,6 +9,8 @@ mod node;
 mod outcome;
 mod path;
 mod phase;
+#[cfg(test)]
+mod tests;
 mod want;
 
 pub use entry::{Entries, Entry, HolderKey, Key, Limit, Limits, Rank};

@@ -1,4 +1,12 @@
 //! The text of a `when`: read against its grammar, and evaluated.
 #![tactic(auto)]
 
+mod evaluation;
+mod number;
+mod reading;
+mod refused;
+mod steps;
 pub mod when;
+
+pub use refused::{NotNumbers, WhenRefused};
+pub use when::{When, eval, parse_when};
