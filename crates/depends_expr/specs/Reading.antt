@@ -1,6 +1,6 @@
 -- The reading of a `depends`, byte by byte: what is open after a text, or that no text of the grammar begins so.
-use Rattle.std.specs.Prelude.{ℕ, zero, suc, List, [], ◌∷◌, ◌++◌, ◌-◌, length, Bool, true, false, ◌||◌, ◌==◌, nat_lt, Option, Some, None, Result, Ok, Err, if◌then◌else◌, bytes_eq, nat_eq}
-use Rattle.std.specs.List.{list_any, starts_with}
+use Rattle.std.specs.Prelude.{ℕ, zero, suc, List, [], ◌∷◌, ◌++◌, ◌-◌, length, Bool, true, false, ◌==◌, nat_lt, Option, Some, None, if◌then◌else◌, bytes_eq}
+use Rattle.std.specs.List.{list_any}
 use Rattle.depends_expr.specs.Expression.{Word, succeeded, failed, errored, skipped, omitted, daemoned, any_succeeded, all_failed, Expression, bare, has, negation, both, either}
 use Rattle.depends_expr.specs.Grammar.{Text, is_space, is_name_byte, spelling}
 

@@ -1,5 +1,5 @@
 -- The evaluation of steps in postfix order.
-use Rattle.std.specs.Prelude.{◌≡◌, ℕ, ◌+◌, ◌-◌, List, [], ◌∷◌, length, Bool, true, false, not, ◌&&◌, ◌||◌, nat_lt, Option, None, Some, slice_get}
+use Rattle.std.specs.Prelude.{ℕ, ◌+◌, ◌-◌, List, [], ◌∷◌, Bool, true, false, not, ◌&&◌, ◌||◌, nat_lt, Option, None, Some, slice_get}
 use Rattle.depends_expr.specs.declared.results.TaskResult.{TaskResult}
 use Rattle.depends_expr.specs.declared.steps.Step.{Step}
 use Rattle.depends_expr.specs.declared.steps.Step.TheVariants.{Bare, Has, Not, And, Or}

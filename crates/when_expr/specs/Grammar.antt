@@ -1,6 +1,6 @@
 -- The grammar of a `when` (the language of these conditions is this project's own).
-use Rattle.std.specs.Prelude.{◌≡◌, ℕ, zero, suc, ◌≤◌, List, [], ◌∷◌, ◌++◌, length, take, Bool, true, false, not, ◌||◌, ◌&&◌, ◌==◌, nat_lt, IsTrue, codes, Option}
-use Rattle.std.specs.List.{list_all, list_any}
+use Rattle.std.specs.Prelude.{ℕ, suc, ◌≤◌, [], ◌∷◌, ◌++◌, length, take, Bool, true, false, not, ◌&&◌, ◌==◌, nat_lt, IsTrue, codes, Option}
+use Rattle.std.specs.List.{list_all}
 use Rattle.when_expr.specs.Expression.{Order, equal, unequal, below, at_most, above, at_least, Term, quoted, word, Condition, literal, test, negated, all_of, any_of}
 use Rattle.when_expr.specs.Symbols.{Text, is_space, is_quote, is_word_byte}
 use Rattle.when_expr.specs.Reading.{start, read}

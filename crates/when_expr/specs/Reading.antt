@@ -1,5 +1,5 @@
 -- The reading of a `when`, byte by byte: what is open after a text, or that no text of the grammar begins so.
-use Rattle.std.specs.Prelude.{ℕ, zero, suc, List, [], ◌∷◌, ◌++◌, ◌-◌, Bool, true, false, ◌==◌, Option, Some, None, if◌then◌else◌, codes, bytes_eq}
+use Rattle.std.specs.Prelude.{ℕ, zero, suc, List, [], ◌∷◌, ◌++◌, ◌-◌, true, false, ◌==◌, Option, Some, None, if◌then◌else◌, codes, bytes_eq}
 use Rattle.when_expr.specs.Expression.{Order, equal, unequal, below, at_most, above, at_least, Term, quoted, word, Condition, literal, test, negated, all_of, any_of}
 use Rattle.when_expr.specs.Symbols.{Text, Kind, letter, blank, quote, bang, opening, closing, ampersand, bar, equals, less, greater, kind}
 
@@ -31,15 +31,15 @@ pub data Side : Type 0 where
   second : Term → Order → Side
 
 pub data State : Type 0 where
-  wants : Around → State                                                   -- an operand is to come
-  in_quote : ℕ → Text → Side → Around → State                              -- inside quotes
-  in_word : Text → Side → Around → State                                   -- inside a word
-  has_term : Term → Around → State                                         -- behind a first term
-  in_order : Mark → Term → Around → State                                  -- behind the first byte of an order
-  wants_term : Term → Order → Around → State                               -- the second term is to come
-  done : Condition → Option Condition → List Level → ℕ → State             -- behind an operand: what the last `&&`s join
-  half_and : Condition → Option Condition → List Level → ℕ → State         -- behind one `&`
-  half_or : Condition → Option Condition → List Level → ℕ → State          -- behind one `|`
+  wants : Around → State  -- an operand is to come
+  in_quote : ℕ → Text → Side → Around → State  -- inside quotes
+  in_word : Text → Side → Around → State  -- inside a word
+  has_term : Term → Around → State  -- behind a first term
+  in_order : Mark → Term → Around → State  -- behind the first byte of an order
+  wants_term : Term → Order → Around → State  -- the second term is to come
+  done : Condition → Option Condition → List Level → ℕ → State  -- behind an operand: what the last `&&`s join
+  half_and : Condition → Option Condition → List Level → ℕ → State  -- behind one `&`
+  half_or : Condition → Option Condition → List Level → ℕ → State  -- behind one `|`
 
 abbrev pub fresh : ℕ → Level
 fresh room = record { sum = None; product = None; begun = room; room = room }

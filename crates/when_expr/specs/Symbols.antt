@@ -1,5 +1,5 @@
 -- The bytes of the symbols of a `when`.
-use Rattle.std.specs.Prelude.{ℕ, List, [], ◌∷◌, Bool, true, false, ◌||◌, ◌==◌, if◌then◌else◌}
+use Rattle.std.specs.Prelude.{ℕ, List, Bool, true, false, ◌||◌, ◌==◌, if◌then◌else◌}
 
 abbrev pub Text : Type 0
 Text = List ℕ
