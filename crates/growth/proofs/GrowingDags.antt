@@ -2,16 +2,16 @@
 -- begins no further task.
 use Rattle.std.proofs.Common.{◌≡◌, refl, sym, ◌∙◌, ap, subst, ◌⊎◌, arith}
 use Rattle.std.proofs.Math.Logic.{inl, inr}
-use Rattle.std.specs.Prelude.{ℕ, zero, suc, List, [], ◌∷◌, ◌++◌, Bool, true, false, cond, not, ◌&&◌, ◌||◌, Option, Some, None, bytes_eq, length, codes, map}
+use Rattle.std.specs.Prelude.{ℕ, zero, suc, List, [], ◌∷◌, ◌++◌, Bool, true, false, cond, not, ◌&&◌, ◌||◌, Option, Some, None, length, codes}
 use Rattle.std.specs.List.{list_all, list_any}
 use Rattle.tree_types.specs.declared.phase.Phase.{Phase}
 use Rattle.tree_types.specs.declared.phase.Phase.TheVariants.{Running, Omitted}
 use Rattle.tree_types.specs.declared.node.Kind.TheVariants as kind
 use Rattle.tree_types.specs.declared.node.Note.TheVariants as note
 use Rattle.tree_types.specs.declared.node.Node.{Node}
-use Rattle.tree_types.specs.Phases.{fulfilled, worst_of}
-use Rattle.depends_expr.specs.Expression.{Expression, bare, has, negation, both, either}
-use Rattle.depends_expr.specs.Truth.{holds, bare_holds, truth, named}
+use Rattle.tree_types.specs.Phases.{fulfilled}
+use Rattle.depends_expr.specs.Expression.{Expression}
+use Rattle.depends_expr.specs.Truth.{named}
 use Rattle.wf_manifest.specs.declared.calls.Task.{Task}
 use Rattle.wf_manifest.specs.declared.calls.Dag.{Dag}
 use Rattle.wf_manifest.specs.declared.templates.OutputDecl.{OutputDecl}
@@ -19,18 +19,18 @@ use Rattle.scopes.specs.Substitution.{Scope}
 use Rattle.meaning.specs.declared.lines.Place.{Place}
 use Rattle.meaning.specs.declared.lines.Made.{Made}
 use Rattle.meaning.specs.Answers.{Sels, Answers}
-use Rattle.meaning.specs.Lines.{numbered, no_outputs, alone}
+use Rattle.meaning.specs.Lines.{no_outputs, alone}
 use Rattle.meaning.specs.Outputs.{computed, ending}
 use Rattle.meaning.specs.Steps.{Runner, covered}
-use Rattle.meaning.specs.Dags.{awaited, is_meant, Standing, waiting, ready, exists, is_over, is_ready, is_at_rest, result_of, branch_of, tags_up_to, Look, Standings, look, task_place, tags_before, free_by, free, omitted, decided_by, waits_by, meant, meant_by, standing, with_standing, rounds, standings, is_doomed, may_go_on, dag_over, dag_phase, standing_lines, task_lines, dag_lines, dag_tags, dag_by, dag_made}
+use Rattle.meaning.specs.Dags.{awaited, is_meant, Standing, waiting, ready, exists, is_over, is_ready, is_at_rest, Look, Standings, look, task_place, tags_before, free_by, free, decided_by, waits_by, meant, meant_by, with_standing, rounds, standings, is_doomed, may_go_on, dag_over, dag_phase, standing_lines, task_lines, dag_lines, dag_tags, dag_by, dag_made}
 use Rattle.growth.specs.Growth.{SaysMore, New}
-use Rattle.growth.proofs.Rows.{All, Pairs, both_true, all_map, all_numbered, all_between, pairs_from}
+use Rattle.growth.proofs.Rows.{All, Pairs, both_true, all_map, pairs_from}
 use Rattle.growth.proofs.Lines.{Has, Proper, proper_map, proper_holds, child_not_deep, Under, Inside, AtChild, Deep, From, under_deep, from_inside, rows_in, rows_fair, Fair, fair_below, fair_map}
 use Rattle.growth.proofs.Keeping.{not_both, AllKept, Later, Grew, Begun, begun_below, begun_nothing, rows_kept, rows_begun, unchanged, ending_ends, same_place, made_later}
 use Rattle.growth.proofs.Paths.{paths}
 use Rattle.growth.proofs.SoundBodies.{task_at, task_ways, tasks_laid, Sound, StandSound, rounds_sound, lines_proper}
 use Rattle.growth.proofs.GrowingBodies.{Growing, fair_under}
-use Rattle.growth.proofs.DagRounds.{Keeps, keeps_agree, look_related, Agree, Related, truth_at, all_over, Knows, awaited_same, round_down, AllStand, rounds_stay}
+use Rattle.growth.proofs.DagRounds.{Keeps, keeps_agree, look_related, Related, truth_at, all_over, Knows, awaited_same, round_down, AllHold, rounds_stay}
 
 -- ---- under later answers
 
@@ -231,24 +231,24 @@ module _ (A B : Answers) (g : SaysMore A B) (run ran : Runner) (sound : Sound pa
   not_going_on false false e f = refl
 
   -- a task that is finished, and below which what newly begins may begin
-  abbrev Settled_ : ℕ → Task → Made → Type 0
-  Settled_ k t m = Fair (New A B) (Under (task_place p k t).sels) m.lines × (m.finished ≡ true)
+  abbrev FairAndDone : ℕ → Task → Made → Type 0
+  FairAndDone k t m = Fair (New A B) (Under (task_place p k t).sels) m.lines × (m.finished ≡ true)
 
-  settled_same : (seen : Scope) (k : ℕ) (t : Task) → Settled_ k t (run (codes "tasks.") (task_place p k t) (seen ++ scope) t.call) → ran (codes "tasks.") (task_place p k t) (seen ++ scope) t.call ≡ run (codes "tasks.") (task_place p k t) (seen ++ scope) t.call
-  settled_same seen k t h = (grows (codes "tasks.") (task_place p k t) (seen ++ scope) t.call h.0).later.done h.1
+  done_same : (seen : Scope) (k : ℕ) (t : Task) → FairAndDone k t (run (codes "tasks.") (task_place p k t) (seen ++ scope) t.call) → ran (codes "tasks.") (task_place p k t) (seen ++ scope) t.call ≡ run (codes "tasks.") (task_place p k t) (seen ++ scope) t.call
+  done_same seen k t h = (grows (codes "tasks.") (task_place p k t) (seen ++ scope) t.call h.0).later.done h.1
 
   module _ (begun : (k : ℕ) (t : Task) → (not d.fail_fast || B.begun (task_place p k t).sels) ≡ (not d.fail_fast || A.begun (task_place p k t).sels)) where
-    both_stand : (k : ℕ) (t : Task) (x : Standing) → StandFair k t x → is_at_rest x ≡ true → AllStand A B run ran p scope d Settled_ settled_same begun k (t, x)
+    both_stand : (k : ℕ) (t : Task) (x : Standing) → StandFair k t x → is_at_rest x ≡ true → AllHold A B run ran p scope d FairAndDone done_same begun k (t, x)
     both_stand k t waiting f r = tt
     both_stand k t ready f r = tt
     both_stand k t (exists m b s) f r = (f, r)
 
-    both_hold : (i : ℕ) (us : Standings) → All FairAt i us → All (λ k x. is_at_rest x.1 ≡ true) i us → All (AllStand A B run ran p scope d Settled_ settled_same begun) i us
+    both_hold : (i : ℕ) (us : Standings) → All FairAt i us → All (λ k x. is_at_rest x.1 ≡ true) i us → All (AllHold A B run ran p scope d FairAndDone done_same begun) i us
     both_hold i [] f r = tt
     both_hold i (u ∷ us) f r = (both_stand i u.0 u.1 f.0 r.0, both_hold (suc i) us f.1 r.1)
 
     rounds_rest : (n : ℕ) → All FairAt 0 (before n) → AllRest (before n) ≡ true → now n ≡ before n
-    rounds_rest n f e = rounds_stay A B run ran p scope d Settled_ settled_same begun n (both_hold 0 (before n) f (all_rest 0 (before n) e))
+    rounds_rest n f e = rounds_stay A B run ran p scope d FairAndDone done_same begun n (both_hold 0 (before n) f (all_rest 0 (before n) e))
 
   -- a DAG that is over begins no further task, and stays
   over_stays : All FairAt 0 ss → Fair (New A B) (From task_at p.sels 0) (dag_lines doomed p ss) → dag_over d ss ≡ true → standings B ran p scope d ≡ ss

@@ -43,7 +43,7 @@ use Rattle.meaning.specs.Dags.{Standing, waiting, ready, exists, Look, Standings
 use Rattle.growth.proofs.Rows.{All, all_numbered, Laid}
 use Rattle.growth.proofs.Lines.{Has, AllOpen, Unresumed, Proper, proper_append, proper_map, proper_wants, Nowhere, Under, Inside, AtChild, From, inside_under, under_at_child, Ways, from_inside, child_then, rows_proper}
 use Rattle.growth.proofs.Keeping.{At, node_at, ending_ends}
-use Rattle.growth.proofs.Geometry.{Step_, down, Geometry, Placed, placed_map, placed_none, placed_wants, placed_before, Inner, Top, outer, placed_made, Kin, Kids, kids_inner, placed_then, placed_last, rows_placed, kin_numbers}
+use Rattle.growth.proofs.Geometry.{Descent, down, Geometry, Placed, placed_map, placed_none, placed_wants, placed_before, Inner, Top, outer, placed_made, Kin, Kids, kids_inner, placed_then, placed_last, rows_placed, kin_numbers}
 
 -- ---- the children of each kind
 
@@ -65,16 +65,16 @@ step_ways = record { differ = λ i j e. cc e; inner = λ i. refl }
 pub task_ways : Ways task_at
 task_ways = record { differ = λ i j e. cc e; inner = λ i. refl }
 
-abbrev pub attempt_step : ℕ → Unit {0} → Step_
+abbrev pub attempt_step : ℕ → Unit {0} → Descent
 attempt_step i x = (Attempt i, seg.Attempt i)
 
-abbrev pub group_step : ℕ → List Call → Step_
+abbrev pub group_step : ℕ → List Call → Descent
 group_step i cs = (Group i, seg.Group i)
 
-abbrev pub member_step : ℕ → Call → Step_
+abbrev pub member_step : ℕ → Call → Descent
 member_step i c = (Step i, seg.Call c.name)
 
-abbrev pub task_step : ℕ → Task → Step_
+abbrev pub task_step : ℕ → Task → Descent
 task_step i t = (task_sel i, seg.Call t.call.name)
 
 abbrev pub members_laid : Laid Member

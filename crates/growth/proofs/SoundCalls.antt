@@ -43,7 +43,7 @@ use Rattle.meaning.specs.Trees.{workflow_tags, root, exit_root, top_call, main_m
 use Rattle.growth.proofs.Rows.{All, all_numbered}
 use Rattle.growth.proofs.Lines.{any_left, IsAt, Unresumed, Proper, proper_append, proper_map, Nowhere, Anywhere, Under, Inside, AtChild, From, child_under, Ways, from_under, rows_proper}
 use Rattle.growth.proofs.Keeping.{At, node_at}
-use Rattle.growth.proofs.Geometry.{Step_, Geometry, Apart, Placed, placed_map, placed_append, placed_none, Inner, Top, outer, top_below, hook_below, top_apart_hook, placed_made, Kin, Kids, kids_inner, rows_placed, kin_numbers}
+use Rattle.growth.proofs.Geometry.{Descent, Geometry, Apart, Placed, placed_map, placed_append, placed_none, Inner, Top, outer, top_below, hook_below, top_apart_hook, placed_made, Kin, Kids, kids_inner, rows_placed, kin_numbers}
 use Rattle.growth.proofs.SoundBodies.{items_laid, StepsFit, DagFits, Topped, Called, topped_called, leaf_topped, alone_topped, pod_topped, retry_topped, suspend_topped, Sound, at_child, steps_topped, dag_topped}
 
 abbrev pub item_at : ℕ → Sel
@@ -52,7 +52,7 @@ item_at i = Item i
 pub item_ways : Ways item_at
 item_ways = record { differ = λ i j e. cc e; inner = λ i. refl }
 
-abbrev pub item_step : ℕ → Data → Step_
+abbrev pub item_step : ℕ → Data → Descent
 item_step i d = (Item i, seg.Item i (name_text d))
 
 -- ---- which manifests' names fit
@@ -150,13 +150,13 @@ module _ (G : Geometry) (A : Answers) where
 
     -- ---- a call of a template, whatever follows it
 
-    module _ (p : Place) (follow : Made → Made) (R : Made → Type 0) (after : (b : Made) → Topped G A p b → R (follow b)) (alone_ : (b : Made) → Topped G A p b → R b) where
+    module _ (p : Place) (follow : Made → Made) (R : Made → Type 0) (after : (b : Made) → Topped G A p b → R (follow b)) (instead : (b : Made) → Topped G A p b → R b) where
       entry_is : (t : Template) (f : Found Scope) → BodyFits G t.body → R (entry m A flow run p t follow f)
-      entry_is t (Err fault) k = alone_ (alone p (kind_of t) Error fault) (alone_topped G A p (kind_of t) Error fault (λ r. absurd (cc r)))
+      entry_is t (Err fault) k = instead (alone p (kind_of t) Error fault) (alone_topped G A p (kind_of t) Error fault (λ r. absurd (cc r)))
       entry_is t (Ok inner) k = after (template_made m A flow run p inner t) (template_topped t k p inner)
 
       pub call_by_is : (s : Scope) (given : List Argument) (o : Option Template) → FoundFits G o → R (call_by m A flow run p s given follow o)
-      call_by_is s given None k = alone_ (alone p kind.Pod Error note.None) (alone_topped G A p kind.Pod Error note.None (λ r. absurd (cc r)))
+      call_by_is s given None k = instead (alone p kind.Pod Error note.None) (alone_topped G A p kind.Pod Error note.None (λ r. absurd (cc r)))
       call_by_is s given (Some t) k = entry_is t (entered flow s given t.inputs) k
 
     pub plain_topped : (p : Place) (s : Scope) (n : List ℕ) (given : List Argument) → Topped G A p (plain_call m A flow run p s n given (λ x. x))

@@ -1,19 +1,16 @@
 -- A plain manifest that is over means the same by answers that agree on its pods but for their ticks.
-use Rattle.std.proofs.Common.{◌≡◌, refl, sym, ◌∙◌, ap, subst, ◌⊎◌}
+use Rattle.std.proofs.Common.{◌≡◌, refl, sym, ◌∙◌, ap, subst}
 use Rattle.std.proofs.Math.Logic.{inl, inr}
 use Rattle.std.specs.Prelude.{ℕ, zero, suc, List, [], ◌∷◌, ◌++◌, Bool, true, false, not, cond, ◌&&◌, ◌||◌, Option, Some, None, Ok, Err, is_none, option_map, map, codes, length, bytes_eq}
 use Rattle.std.specs.List.{list_all, find}
 use Rattle.serde_json.specs.Data.{Data}
 use Rattle.tree_types.specs.declared.path.Path.{Path}
 use Rattle.tree_types.specs.declared.path.LockId.{LockId}
-use Rattle.tree_types.specs.declared.phase.Phase.{Phase}
-use Rattle.tree_types.specs.declared.phase.Phase.TheVariants.{Running}
 use Rattle.tree_types.specs.declared.node.Kind.TheVariants as kind
 use Rattle.tree_types.specs.declared.node.Note.{Note}
 use Rattle.tree_types.specs.declared.node.Note.TheVariants as note
 use Rattle.tree_types.specs.declared.node.Node.{Node}
 use Rattle.tree_types.specs.declared.outcome.Outcome.{Outcome}
-use Rattle.tree_types.specs.declared.want.Want.{Want}
 use Rattle.tree_types.specs.declared.want.Want.TheVariants as want
 use Rattle.tree_types.specs.Phases.{is_succeeded}
 use Rattle.wf_manifest.specs.declared.calls.Argument.{Argument}
@@ -24,7 +21,6 @@ use Rattle.wf_manifest.specs.declared.calls.Task.{Task}
 use Rattle.wf_manifest.specs.declared.calls.Dag.{Dag}
 use Rattle.wf_manifest.specs.declared.templates.OutputDecl.{OutputDecl}
 use Rattle.wf_manifest.specs.declared.templates.Backoff.{Backoff}
-use Rattle.wf_manifest.specs.declared.templates.Memoize.{Memoize}
 use Rattle.wf_manifest.specs.declared.templates.Retry.{Retry}
 use Rattle.wf_manifest.specs.declared.templates.Body.{Body}
 use Rattle.wf_manifest.specs.declared.templates.Body.TheVariants as body
@@ -37,22 +33,22 @@ use Rattle.meaning.specs.declared.lines.Place.{Place}
 use Rattle.meaning.specs.declared.lines.Line.{Line}
 use Rattle.meaning.specs.declared.lines.Line.TheVariants.{Stands, Asks, MayBegin}
 use Rattle.meaning.specs.declared.lines.Made.{Made}
-use Rattle.meaning.specs.Answers.{path, Facts, Answers, outcome_at, answers}
-use Rattle.meaning.specs.Lines.{numbered, node, made, alone, lines_of, tags_of}
+use Rattle.meaning.specs.Answers.{Answers, answers}
+use Rattle.meaning.specs.Lines.{numbered, lines_of, tags_of}
 use Rattle.meaning.specs.Outputs.{completed, ending}
-use Rattle.meaning.specs.Pods.{outputs_of, ended_pod, pod_by, pod_made, Attempts, ends_with, before_attempts, first_begin, further, attempt, may_start, ended_attempt, started_by, retried_by, follows, attempt_by, attempts_from, attempts, next_timer, retry_node, retry_by, retry_made}
-use Rattle.meaning.specs.Steps.{Runner, Member, member, members, makings, group_phase, group_made, group_tags, Groups, before_groups, group_place, groups_by, members_at, groups_from, steps_by, steps_made}
-use Rattle.meaning.specs.Dags.{Standing, waiting, ready, exists, Standings, task_place, rounds, standings, is_doomed, standing_lines, task_lines, dag_lines, dag_by, dag_made}
+use Rattle.meaning.specs.Pods.{outputs_of, ended_pod, pod_by, pod_made, Attempts, ends_with, before_attempts, first_begin, further, attempt, may_start, ended_attempt, started_by, retried_by, follows, attempt_by, attempts_from, attempts, next_timer, retry_by, retry_made}
+use Rattle.meaning.specs.Steps.{Runner, Member, member, members, group_phase, group_made, group_tags, Groups, before_groups, group_place, groups_by, members_at, groups_from, steps_by, steps_made}
+use Rattle.meaning.specs.Dags.{Standing, waiting, ready, exists, task_place, standings, is_doomed, standing_lines, task_lines, dag_by, dag_made}
 use Rattle.meaning.specs.Calls.{template_named, entered, kind_named, hook_runs, hook_place, then_hook, loop_made, item_place, stopped_before_loop, stopped_at_item, unless_stopped, body_by, body_made, memo_made, template_by, template_made, entry, call_by, plain_call, hook_made, hooked_if, hooked, one_made, item_made, items_made, declared_by, looped, each_made, call_made, calls}
 use Rattle.meaning.specs.Trees.{workflow_tags, root, exit_root, top_call, main_made, status_tags, exit_made, exit_if, exit_of, exit_lines, running_lines, lines_started, lines_by, lines, nodes_in, wants_in, phase}
 use Rattle.meaning.specs.Plain.{Planned, without_ticks, planned_answers, has_no_backoff, is_plain_body, is_plain_template, is_plain}
-use Rattle.growth.specs.Growth.{Among, IsOver}
-use Rattle.growth.specs.Ticks.{place_of, untimed, AgreesOnPods, TicksDoNotMatter, IsPlanned, PlainAsPlanned}
+use Rattle.growth.specs.Growth.{Among}
+use Rattle.growth.specs.Ticks.{place_of, untimed, TicksDoNotMatter, IsPlanned, PlainAsPlanned}
 use Rattle.growth.proofs.Rows.{All, both_true, Laid}
 use Rattle.growth.proofs.Lines.{Every}
 use Rattle.growth.proofs.Keeping.{not_both, At, ending_ends}
 use Rattle.growth.proofs.SoundBodies.{members_laid, items_laid, tasks_laid}
-use Rattle.growth.proofs.DagRounds.{AllStand, rounds_stay}
+use Rattle.growth.proofs.DagRounds.{AllHold, rounds_stay}
 use Rattle.growth.proofs.GrowingTrees.{asks_only_saves}
 
 module _ (P : Line → Type 0) where
@@ -212,7 +208,7 @@ module _ (A B : Answers) where
       begun_same k t = ap (λ (x : Bool). not x || B.begun (task_place p k t).sels) slow ∙ ap (λ (x : Bool). not x || A.begun (task_place p k t).sels) (sym slow)
 
       abbrev Agreed : ℕ → Task × Standing → Type 0
-      Agreed = AllStand A B run ran p s d (λ k t m. Agreeing m.lines) (λ seen k t. stay (codes "tasks.") (task_place p k t) (seen ++ s) t.call) begun_same
+      Agreed = AllHold A B run ran p s d (λ k t m. Agreeing m.lines) (λ seen k t. stay (codes "tasks.") (task_place p k t) (seen ++ s) t.call) begun_same
 
       line_agrees : (x : Bool) (k : ℕ) (t : Task) (u : Standing) → Agreeing (standing_lines x (task_place p k t) u) → Agreed k (t, u)
       line_agrees x k t waiting h = tt
