@@ -1,0 +1,5 @@
+pub mod Built
+pub mod Ends
+pub mod Growing
+pub mod Index
+pub mod Told

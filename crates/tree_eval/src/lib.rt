@@ -1,0 +1,15 @@
+//! The node tree of a manifest over what is recorded of it, for workflows of pods and steps.
+#![tactic(auto)]
+
+mod growth;
+mod nodes;
+mod recorded;
+mod refused;
+mod tally;
+mod templates;
+mod walk;
+mod whole;
+
+pub use recorded::{Ended, Recorded};
+pub use refused::TreeRefused;
+pub use whole::{Evaluated, evaluate, tree};
