@@ -7,7 +7,15 @@ use Rattle.depends_expr.specs.Truth.{holds, bare_holds}
 use Rattle.depends_expr.specs.Postfix.{word_of}
 
 abbrev pub nothing : TaskResult
-nothing = record { succeeded = false; failed = false; errored = false; skipped = false; omitted = false; any_succeeded = false; all_failed = false }
+nothing = record {
+  succeeded = false;
+  failed = false;
+  errored = false;
+  skipped = false;
+  omitted = false;
+  any_succeeded = false;
+  all_failed = false;
+}
 
 abbrev pub found_result : Option TaskResult → TaskResult
 found_result None = nothing
