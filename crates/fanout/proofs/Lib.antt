@@ -1,4 +1,5 @@
 pub mod Formats
+pub mod Naming
 pub mod Numerals
 pub mod Saying
 pub mod Telling

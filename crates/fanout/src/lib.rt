@@ -15,7 +15,7 @@ mod texts;
 use base_types::List;
 pub use fanning::items;
 pub use refused::FanRefused;
-pub use texts::item_text;
+pub use texts::{item_text, name_text};
 use wf_manifest::Json;
 
 /// The items of a loop.
