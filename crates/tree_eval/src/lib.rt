@@ -1,7 +1,9 @@
 //! The node tree of a manifest over what is recorded of it, for workflows of pods and steps.
 #![tactic(auto)]
 
+mod built;
 mod growth;
+mod journal;
 mod nodes;
 mod recorded;
 mod refused;
@@ -10,6 +12,8 @@ mod templates;
 mod walk;
 mod whole;
 
+pub use built::is_built;
+pub use journal::JournalIndex;
 pub use recorded::{Ended, Recorded};
 pub use refused::TreeRefused;
 pub use whole::{Evaluated, evaluate, tree};
