@@ -4,3 +4,6 @@ pub mod Grammar
 pub mod Reading
 pub mod Postfix
 pub mod View
+pub mod Drafts
+pub mod Numbering
+pub mod Values

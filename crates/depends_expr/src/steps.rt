@@ -3,6 +3,7 @@
 
 ghost use Rattle.std.specs.Prelude.{◌≡◌, ◌++◌, ◌∷◌, [], IfOk};
 ghost use Rattle.depends_expr.specs.Expression.{bare, has, negation, both, either};
+ghost use Rattle.depends_expr.specs.Grammar.{spelling};
 ghost use Rattle.depends_expr.specs.Postfix.{word_of};
 
 use base_types::{Memory, Text, TryCopy};
@@ -20,6 +21,36 @@ pub(crate) enum Outcome {
     Daemoned,
     AnySucceeded,
     AllFailed,
+}
+
+/// All of them.
+pub(crate) const OUTCOMES: [Outcome; 8] = [
+    Outcome::Succeeded,
+    Outcome::Failed,
+    Outcome::Errored,
+    Outcome::Skipped,
+    Outcome::Omitted,
+    Outcome::Daemoned,
+    Outcome::AnySucceeded,
+    Outcome::AllFailed,
+];
+
+impl Outcome {
+    /// As it is written.
+    pub(crate) fn text(self) -> &'static [u8]
+        ensures { result.now ≡ spelling (word_of self) }
+    {
+        match self {
+            Outcome::Succeeded => b"Succeeded",
+            Outcome::Failed => b"Failed",
+            Outcome::Errored => b"Errored",
+            Outcome::Skipped => b"Skipped",
+            Outcome::Omitted => b"Omitted",
+            Outcome::Daemoned => b"Daemoned",
+            Outcome::AnySucceeded => b"AnySucceeded",
+            Outcome::AllFailed => b"AllFailed",
+        }
+    }
 }
 
 /// A step of an expression in postfix order, which names a task by an `N`.

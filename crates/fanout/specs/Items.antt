@@ -1,6 +1,6 @@
 -- The items of a loop, or its first fault (Argo, "Loops"; field reference, `withItems`, `withParam`, `withSequence`).
 -- The order of faults and the limits are this project's own.
-use Rattle.std.specs.Prelude.{List, [], ◌∷◌, length, Bool, true, false, ◌&&◌, nat_le, Option, Some, None, Ok, Err, if◌then◌else◌, ℤ, map}
+use Rattle.std.specs.Prelude.{List, [], ◌∷◌, length, Bool, true, false, ◌&&◌, nat_le, Option, Some, None, Ok, Err, if◌then◌else◌, ℕ, ℤ, map}
 use Rattle.std.specs.List.{list_all}
 use Rattle.serde_json.specs.Data.{float, Data, null, boolean, number, string, array, object, Items, no_items, item, Members, no_members, member}
 use Rattle.serde_json.specs.Read.{read}
@@ -68,6 +68,10 @@ items_of_read (Some d) = items_of_data d
 abbrev pub number_items : Format × List ℤ → List Data
 number_items row = map (λ z. string (written row.0 z)) row.1
 
+-- the items of a sequence whose texts are substituted
+abbrev pub sequence_items : Option (List ℕ) → Option (List ℕ) → Option (List ℕ) → Option (List ℕ) → Found (List Data)
+sequence_items count start end format = sequence_texts count start end format >>= λ row. Ok (number_items row)
+
 -- the items of a loop; the first tag without a value is a fault before all others
 abbrev pub items : Scope → Loop → Found (List Data)
 items scope (each.Items d) = said_in scope d >>= items_of_data
@@ -77,5 +81,4 @@ items scope (each.Sequence count start end format) = do
   s ← said_option scope start
   e ← said_option scope end
   f ← said_option scope format
-  row ← sequence_texts c s e f
-  Ok (number_items row)
+  sequence_items c s e f

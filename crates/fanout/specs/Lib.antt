@@ -1,3 +1,6 @@
-pub mod Sequences
-pub mod Items
+pub mod Faults
 pub mod ItemTexts
+pub mod Items
+pub mod Rows
+pub mod Sequences
+pub mod Shapes

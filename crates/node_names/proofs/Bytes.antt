@@ -1,36 +1,27 @@
 -- Runs of bytes.
-use Rattle.std.proofs.Common.{◌≡◌, ◌≢◌, ◌⊎◌, ℕ, ◌<◌, ◌≤◌, ◌^◌, ◌||◌, ◌&&◌, nat_eq, Bool, true, false, not, List, [], ◌∷◌, ◌++◌, length, refl, sym, ap, ◌∙◌, inl, inr, arith}
+use Rattle.std.proofs.Common.{◌≡◌, ◌≢◌, ℕ, ◌<◌, ◌^◌, nat_eq, Bool, true, false, not, List, [], ◌∷◌, ◌++◌, refl, ap, inl, inr, arith}
 use Rattle.std.specs.Prelude.{decimal}
-use Rattle.std.specs.Char.{digit_value}
 use Rattle.std.specs.Int.{IsInRange}
 use Rattle.std.specs.List.{list_all}
 use Rattle.std.specs.Str.Parse.{AllDigits, digits_value}
+use Rattle.node_names.specs.Reading.{Stops}
 use Rattle.std.proofs.lemmas.Str.Parse.{IsNumeralModel, numerals_by_value, tells_digits, digit_from_value}
 use Rattle.std.proofs.lemmas.Fmt.{digits_decimal}
+use Rattle.std.proofs.lemmas.Bool.{cases_Bool, and_parts, and_from}
 use Rattle.std.proofs.lemmas.Bool.Decides.{Decides-eqb}
 
--- either value of a test
-pub test_cases : (b : Bool) → (b ≡ true) ⊎ (b ≡ false)
-test_cases true = inl refl
-test_cases false = inr refl
-
 module _ (p : ℕ → Bool) where
-  -- a run of such bytes cannot go on in this
-  abbrev pub Stops : List ℕ → Type 0
-  Stops [] = Unit {0}
-  Stops (b ∷ bs) = p b ≡ false
-
   pub all_first : (b : ℕ) (bs : List ℕ) → list_all p (b ∷ bs) ≡ true → p b ≡ true
-  all_first b bs all = elim (test_cases (p b)) [ inl passes ↦ passes | inr other ↦ absurd (let h : false ≡ true = sym (ap (λ t. t && list_all p bs) other) ∙ all in cc) ]
+  all_first b bs all = (and_parts (p b) (list_all p bs) all).0
 
   pub all_rest : (b : ℕ) (bs : List ℕ) → list_all p (b ∷ bs) ≡ true → list_all p bs ≡ true
-  all_rest b bs all = sym (ap (λ t. t && list_all p bs) (all_first b bs all)) ∙ all
+  all_rest b bs all = (and_parts (p b) (list_all p bs) all).1
 
   pub all_more : (b : ℕ) (bs : List ℕ) → p b ≡ true → list_all p bs ≡ true → list_all p (b ∷ bs) ≡ true
-  all_more b bs first rest = rw (first, rest) refl
+  all_more b bs first rest = and_from (p b) (list_all p bs) first rest
 
   -- two runs that stop in one text are the same
-  pub runs_agree : (xs ys rest other : List ℕ) → list_all p xs ≡ true → list_all p ys ≡ true → Stops rest → Stops other → xs ++ rest ≡ ys ++ other → (xs ≡ ys) × (rest ≡ other)
+  pub runs_agree : (xs ys rest other : List ℕ) → list_all p xs ≡ true → list_all p ys ≡ true → Stops p rest → Stops p other → xs ++ rest ≡ ys ++ other → (xs ≡ ys) × (rest ≡ other)
   runs_agree [] [] rest other all_xs all_ys stops stop e = (refl, e)
   runs_agree [] (y ∷ ys) [] other all_xs all_ys stops stop e = absurd (cc)
   runs_agree [] (y ∷ ys) (b ∷ bs) other all_xs all_ys stops stop e = absurd (let first : b ≡ y = cc in let h = ap p first in let k = all_first y ys all_ys in cc)
@@ -63,4 +54,4 @@ pub is_not_same : (c : ℕ) → is_not c c ≡ false
 is_not_same c = ap not ((Decides-eqb c c).1 refl)
 
 pub is_not_other : (c b : ℕ) → b ≢ c → is_not c b ≡ true
-is_not_other c b differs = elim (test_cases (nat_eq b c)) [ inl same ↦ absurd (differs ((Decides-eqb b c).0 same)) | inr other ↦ ap not other ]
+is_not_other c b differs = elim (cases_Bool (nat_eq b c)) [ inl same ↦ absurd (differs ((Decides-eqb b c).0 same)) | inr other ↦ ap not other ]

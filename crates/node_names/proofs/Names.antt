@@ -1,17 +1,18 @@
 -- A name is led through in one way.
-use Rattle.std.proofs.Common.{◌≡◌, ◌≢◌, ◌⊎◌, ℕ, ◌<◌, ◌≤◌, ◌^◌, ◌||◌, ◌&&◌, nat_eq, Bool, true, false, not, List, [], ◌∷◌, ◌++◌, length, refl, sym, ap, ◌∙◌, inl, inr, append_assoc, arith}
+use Rattle.std.proofs.Common.{◌≡◌, ◌≢◌, ◌⊎◌, ℕ, ◌<◌, ◌^◌, Bool, true, false, List, [], ◌∷◌, ◌++◌, refl, sym, ap, ◌∙◌, inl, inr, append_assoc, arith}
 use Rattle.std.specs.Prelude.{decimal, codes}
 use Rattle.std.specs.Int.{IsInRange}
-use Rattle.std.specs.List.{list_all, AllByRecursion}
+use Rattle.std.specs.List.{list_all}
 use Rattle.std.proofs.lemmas.List.{append-nil, append_cancel_left}
 use Rattle.std.proofs.lemmas.Fmt.{decimal_injective}
 use Rattle.node_names.specs.declared.seg.Seg.{Seg}
 use Rattle.node_names.specs.declared.seg.Seg.TheVariants.{Exit, Group, Call, Item, Attempt}
-use Rattle.node_names.specs.Names.{suffix, name_below, is_name_byte, IsStepName, is_no_parenthesis, IsSound, AreSound}
-use Rattle.node_names.proofs.Bytes.{Stops, runs_agree, decimal_passes, is_not, is_not_same, is_not_other, all_more, all_first, all_rest, test_cases}
+use Rattle.node_names.specs.Names.{suffix, name_below, is_name_byte, is_no_parenthesis, IsSound, AreSound}
+use Rattle.node_names.specs.Reading.{Stops, EndsBefore}
+use Rattle.node_names.proofs.Bytes.{runs_agree, decimal_passes, is_not, is_not_same, is_not_other, all_more, all_first, all_rest}
 
 -- no number has this byte
-number_lacks : (c n : ℕ) → c < 48 ⊎ 57 < c → n < 2 ^ 32 → list_all (is_not c) (decimal n) ≡ true
+pub number_lacks : (c n : ℕ) → c < 48 ⊎ 57 < c → n < 2 ^ 32 → list_all (is_not c) (decimal n) ≡ true
 number_lacks c n outside small = decimal_passes (is_not c) (λ d digit. is_not_other c d (λ same. apart outside d digit same)) n small
   where
     apart : (c < 48 ⊎ 57 < c) → (d : ℕ) → IsInRange 48 57 d → d ≡ c → ⊥
@@ -19,7 +20,7 @@ number_lacks c n outside small = decimal_passes (is_not c) (λ d digit. is_not_o
     apart (inr above) d digit same = omega (arith, digit.1)
 
 -- two runs up to a closing byte are the same
-closed : (c : ℕ) (a b rest other : List ℕ) → list_all (is_not c) a ≡ true → list_all (is_not c) b ≡ true → (a ++ c ∷ []) ++ rest ≡ (b ++ c ∷ []) ++ other → (a ≡ b) × (rest ≡ other)
+pub closed : (c : ℕ) (a b rest other : List ℕ) → list_all (is_not c) a ≡ true → list_all (is_not c) b ≡ true → (a ++ c ∷ []) ++ rest ≡ (b ++ c ∷ []) ++ other → (a ≡ b) × (rest ≡ other)
 closed c a b rest other all_a all_b e =
     let h = runs_agree (is_not c) a b (c ∷ rest) (c ∷ other) all_a all_b (is_not_same c) (is_not_same c) (sym (append_assoc a (c ∷ []) rest) ∙ e ∙ append_assoc b (c ∷ []) other) in
     (h.0, let tails = h.1 in cc)
@@ -36,28 +37,23 @@ text_lacks : (text : List ℕ) → list_all is_no_parenthesis text ≡ true → 
 text_lacks [] all = refl
 text_lacks (b ∷ bs) all = all_more (is_not 41) b bs (no_closing b (all_first is_no_parenthesis b bs all)) (text_lacks bs (all_rest is_no_parenthesis b bs all))
 
--- what stands between the parentheses of an item
-pub item_inside : ℕ → List ℕ → List ℕ
-item_inside i text = (decimal i ++ 58 ∷ []) ++ text
-
-item_lacks : (i : ℕ) (text : List ℕ) → IsSound (Item i text) → list_all (is_not 41) ((decimal i ++ 58 ∷ []) ++ text) ≡ true
+pub item_lacks : (i : ℕ) (text : List ℕ) → IsSound (Item i text) → list_all (is_not 41) ((decimal i ++ 58 ∷ []) ++ text) ≡ true
 item_lacks i text sound = all_append (is_not 41) (decimal i ++ 58 ∷ []) text (all_append (is_not 41) (decimal i) (58 ∷ []) (number_lacks 41 i (inl (omega arith)) sound.0) refl) (text_lacks text sound.1)
 
 same_number : (m n : ℕ) → m < 2 ^ 32 → n < 2 ^ 32 → decimal m ≡ decimal n → m ≡ n
 same_number m n p q e = decimal_injective m n (omega arith) (omega arith) e
 
-item_is_no_attempt : (i k : ℕ) (text : List ℕ) → i < 2 ^ 32 → k < 2 ^ 32 → (decimal i ++ 58 ∷ []) ++ text ≡ decimal k → ⊥
+pub item_is_no_attempt : (i k : ℕ) (text : List ℕ) → i < 2 ^ 32 → k < 2 ^ 32 → (decimal i ++ 58 ∷ []) ++ text ≡ decimal k → ⊥
 item_is_no_attempt i k text p q e =
     let h = runs_agree (is_not 58) (decimal i) (decimal k) (58 ∷ text) [] (number_lacks 58 i (inr (omega arith)) p) (number_lacks 58 k (inr (omega arith)) q) refl tt (sym (append_assoc (decimal i) (58 ∷ []) text) ∙ e ∙ sym (append-nil (decimal k))) in
     let tails : 58 ∷ text ≡ [] = h.1 in absurd (cc)
 
-first_byte : List ℕ → ℕ
+abbrev pub first_byte : List ℕ → ℕ
 first_byte [] = 0
 first_byte (b ∷ bs) = b
 
 -- one text begins with one sound segment
-pub unsplit : (seg other : Seg) (rest left : List ℕ) → IsSound seg → IsSound other → Stops is_name_byte rest → Stops is_name_byte left → suffix seg ++ rest ≡ suffix other ++ left → (seg ≡ other) × (rest ≡ left)
-unfolding first_byte
+pub unsplit : (seg other : Seg) (rest left : List ℕ) → IsSound seg → IsSound other → EndsBefore seg rest → EndsBefore other left → suffix seg ++ rest ≡ suffix other ++ left → (seg ≡ other) × (rest ≡ left)
 unsplit Exit Exit rest left sound sound' stops stops' e = (refl, append_cancel_left (codes ".onExit") rest left e)
 unsplit Exit (Call name) rest left sound sound' stops stops' e =
     let h = runs_agree is_name_byte (codes "onExit") name rest left refl sound'.0.bytes stops stops' (cc) in
@@ -91,12 +87,11 @@ unsplit seg other rest left sound sound' stops stops' e = absurd (let first = ap
 -- ---- whole names
 
 -- the suffixes one after the other
-pub tail : List Seg → List ℕ
+abbrev pub tail : List Seg → List ℕ
 tail [] = []
 tail (seg ∷ way) = suffix seg ++ tail way
 
 pub name_is_tail : (root : List ℕ) (way : List Seg) → name_below root way ≡ root ++ tail way
-unfolding tail
 name_is_tail root [] = sym (append-nil root)
 name_is_tail root (seg ∷ way) = name_is_tail (root ++ suffix seg) way ∙ append_assoc root (suffix seg) (tail way)
 
@@ -109,9 +104,15 @@ suffix_stops (Item i text) rest = refl
 suffix_stops (Attempt k) rest = refl
 
 pub tail_stops : (way : List Seg) → Stops is_name_byte (tail way)
-unfolding tail
 tail_stops [] = tt
 tail_stops (seg ∷ way) = suffix_stops seg (tail way)
+
+pub tail_ends : (seg : Seg) (way : List Seg) → EndsBefore seg (tail way)
+tail_ends Exit way = tail_stops way
+tail_ends (Group i) way = tt
+tail_ends (Call name) way = tail_stops way
+tail_ends (Item i text) way = tt
+tail_ends (Attempt k) way = tt
 
 pub suffix_some : (seg : Seg) (rest : List ℕ) → suffix seg ++ rest ≢ []
 suffix_some Exit rest e = absurd (cc)
@@ -121,12 +122,11 @@ suffix_some (Item i text) rest e = absurd (cc)
 suffix_some (Attempt k) rest e = absurd (cc)
 
 pub same_way : (way other : List Seg) → AreSound way → AreSound other → tail way ≡ tail other → way ≡ other
-unfolding tail
 same_way [] [] sound sound' e = refl
 same_way [] (seg ∷ other) sound sound' e = absurd (suffix_some seg (tail other) (sym e))
 same_way (seg ∷ way) [] sound sound' e = absurd (suffix_some seg (tail way) e)
 same_way (seg ∷ way) (first ∷ other) sound sound' e =
-    let h = unsplit seg first (tail way) (tail other) sound.0 sound'.0 (tail_stops way) (tail_stops other) e in
+    let h = unsplit seg first (tail way) (tail other) sound.0 sound'.0 (tail_ends seg way) (tail_ends first other) e in
     let one : seg ≡ first = h.0 in
     let others : way ≡ other = same_way way other sound.1 sound'.1 h.1 in
     cc

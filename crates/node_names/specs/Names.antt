@@ -3,7 +3,7 @@
 -- Argo shows a node's name in a workflow's status (field reference, NodeStatus), and forms it from the name of the node
 -- above it as below. That a step is not called `onExit`, and that parentheses are dropped from an item's text, is this
 -- project's own rule: it keeps the names of different nodes apart.
-use Rattle.std.specs.Prelude.{◌≡◌, ◌≢◌, ℕ, ◌+◌, ◌^◌, ◌<◌, ◌≤◌, Bool, true, ◌||◌, not, List, [], ◌∷◌, ◌++◌, length, codes, decimal, ◌==◌}
+use Rattle.std.specs.Prelude.{◌≡◌, ◌≢◌, ℕ, ◌^◌, ◌<◌, ◌≤◌, Bool, true, ◌||◌, not, List, [], ◌∷◌, ◌++◌, length, Option, Some, None, codes, decimal, ◌==◌}
 use Rattle.std.specs.Char.{is_ascii_alphanumeric}
 use Rattle.std.specs.List.{list_all, AllByRecursion}
 use Rattle.node_names.specs.declared.seg.Seg.{Seg}
@@ -45,3 +45,8 @@ IsSound (Attempt k) = k < 2 ^ 32
 
 abbrev pub AreSound : List Seg → Type 0
 AreSound way = AllByRecursion IsSound way
+
+-- what stands where the way to a name is asked for: the way, and nothing where there is none
+abbrev pub IsWay : List ℕ → List ℕ → Option (List Seg) → Type 0
+IsWay root name None = (way : List Seg) → AreSound way → name_below root way ≢ name
+IsWay root name (Some way) = AreSound way × (name_below root way ≡ name)

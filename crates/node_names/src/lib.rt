@@ -3,8 +3,12 @@
 
 mod law;
 mod naming;
+mod reading;
 mod seg;
+#[cfg(test)]
+mod tests;
 
 pub use law::distinct_names;
 pub use naming::child_name;
+pub use reading::segs_of;
 pub use seg::{Seg, Segs};

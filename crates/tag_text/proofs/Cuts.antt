@@ -1,10 +1,11 @@
 -- Where a text is cut at a mark.
-use Rattle.std.proofs.Common.{◌≡◌, ◌≢◌, ◌⊎◌, ℕ, zero, suc, ◌+◌, ◌≤◌, ◌<◌, Bool, true, false, cond, List, [], ◌∷◌, ◌++◌, length, take, drop, Option, Some, None, option_map, refl, sym, ap, subst, ◌∙◌, inl, inr, append_assoc, length-append, arith, nat_eq}
+use Rattle.std.proofs.Common.{◌≡◌, ◌≢◌, ◌⊎◌, ℕ, zero, suc, ◌+◌, ◌≤◌, ◌<◌, true, false, List, [], ◌∷◌, ◌++◌, length, take, drop, Some, None, option_map, refl, ap, ◌∙◌, inl, inr, append_assoc, length-append, arith, nat_eq}
 use Rattle.std.specs.List.{starts_with}
 use Rattle.std.specs.Str.Pattern.{LacksTextAt}
-use Rattle.std.proofs.lemmas.List.{append_cancel_left, append-nil, take-append-le}
-use Rattle.std.proofs.lemmas.List.Prefix.{front_rest, front_fits}
+use Rattle.std.proofs.lemmas.List.{take-append-le}
+use Rattle.std.proofs.lemmas.List.Prefix.{front_rest}
 use Rattle.std.proofs.lemmas.Slice.Eq.{starts_is}
+use Rattle.std.proofs.lemmas.Bool.{cases_Bool}
 use Rattle.std.proofs.lemmas.Bool.Decides.{Decides-eqb}
 use Rattle.tag_text.specs.Parts.{cut, behind}
 use Rattle.tag_text.specs.Spelling.{Lacks, LeadsTo}
@@ -15,11 +16,6 @@ starts_so s mark = (starts_is Decides-eqb s mark (starts_with nat_eq s mark) ref
 
 starts_yes : (s mark rest : List ℕ) → s ≡ mark ++ rest → starts_with nat_eq s mark ≡ true
 starts_yes s mark = (starts_is Decides-eqb s mark (starts_with nat_eq s mark) refl).1
-
--- either value of a test
-pub test_cases : (b : Bool) → (b ≡ true) ⊎ (b ≡ false)
-test_cases true = inl refl
-test_cases false = inr refl
 
 cut_here : (mark bs : List ℕ) (b : ℕ) → starts_with nat_eq (b ∷ bs) mark ≡ true → cut mark (b ∷ bs) ≡ Some ([], drop (length mark) (b ∷ bs))
 cut_here mark bs b starts = rw starts refl
@@ -86,7 +82,7 @@ cuts_later mark bs b differs (inr (f, k, rest)) =
 pub cuts : (m : ℕ) (ms text : List ℕ) → Cuts (m ∷ ms) text
 cuts m ms [] = inl (record { none = refl; lacks = λ before after. not_empty m ms before after })
 cuts m ms (b ∷ bs) =
-    elim (test_cases (starts_with nat_eq (b ∷ bs) (m ∷ ms))) [
+    elim (cases_Bool (starts_with nat_eq (b ∷ bs) (m ∷ ms))) [
       | inl starts ↦ inr (
         [],
         drop (suc (length ms)) (b ∷ bs),
@@ -116,7 +112,7 @@ cut_some m ms [] back leads =
     cut_here (m ∷ ms) (ms ++ back) m (starts_yes (m ∷ (ms ++ back)) (m ∷ ms) back refl)
     ∙ ap (λ (t : List ℕ). Some ([], t)) (front_rest (m ∷ (ms ++ back)) (m ∷ ms) back refl)
 cut_some m ms (x ∷ xs) back leads =
-    elim (test_cases (starts_with nat_eq (x ∷ (xs ++ (m ∷ ms))) (m ∷ ms))) [
+    elim (cases_Bool (starts_with nat_eq (x ∷ (xs ++ (m ∷ ms))) (m ∷ ms))) [
       | inl starts ↦ absurd (let h : [] ≡ x ∷ xs = leads [] (drop (suc (length ms)) (x ∷ (xs ++ (m ∷ ms)))) (starts_so (x ∷ (xs ++ (m ∷ ms))) (m ∷ ms) starts) in cc)
       | inr differs ↦
           let fits : suc (length ms) ≤ length (x ∷ (xs ++ (m ∷ ms))) = omega (arith, length-append xs (m ∷ ms)) in
@@ -141,7 +137,7 @@ found_some m ms (b ∷ bs) rest zero lacks has =
     ∙ ap (λ (t : List ℕ). Some ([], t)) (front_rest (b ∷ bs) (m ∷ ms) rest has)
 found_some m ms [] rest (suc i) lacks has = absurd (let h : [] ≡ m ∷ (ms ++ rest) = has in cc)
 found_some m ms (b ∷ bs) rest (suc i) lacks has =
-    elim (test_cases (starts_with nat_eq (b ∷ bs) (m ∷ ms))) [
+    elim (cases_Bool (starts_with nat_eq (b ∷ bs) (m ∷ ms))) [
       | inl starts ↦ absurd (lacks 0 (omega arith) (drop (suc (length ms)) (b ∷ bs)) (starts_so (b ∷ bs) (m ∷ ms) starts))
       | inr differs ↦
           cut_later (m ∷ ms) bs b differs

@@ -1,9 +1,7 @@
 -- Reading a text tag by tag, without the count of tags.
-use Rattle.std.proofs.Common.{◌≡◌, ◌≢◌, ◌⊎◌, ℕ, zero, suc, ◌+◌, ◌≤◌, ◌<◌, List, [], ◌∷◌, ◌++◌, length, Option, Some, None, Result, Ok, Err, refl, sym, ap, ◌∙◌, inl, inr, append_assoc, length-append, arith}
+use Rattle.std.proofs.Common.{◌≡◌, ℕ, zero, suc, ◌≤◌, ◌<◌, List, [], ◌∷◌, ◌++◌, length, Option, Some, None, Ok, Err, refl, sym, ap, ◌∙◌, inl, inr, append_assoc, length-append, arith}
 use Rattle.tag_text.specs.declared.part.Part.{Part}
-use Rattle.tag_text.specs.declared.part.Part.TheVariants.{Plain, Tag}
-use Rattle.tag_text.specs.declared.refused.TagRefused.{TagRefused}
-use Rattle.tag_text.specs.declared.refused.TagRefused.TheVariants.{Unclosed, EmptyTag, Expression}
+use Rattle.tag_text.specs.declared.refused.TagRefused.TheVariants.{Unclosed}
 use Rattle.tag_text.specs.Parts.{Parsed, opening, closing, cut, trimmed, as_it_stands, tag_named, followed, tag_then, closed, opened, parsed_within, parsed}
 use Rattle.tag_text.proofs.Cuts.{cuts}
 

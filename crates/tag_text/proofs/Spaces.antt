@@ -1,10 +1,10 @@
 -- Spaces at the ends of a text.
-use Rattle.std.proofs.Common.{◌≡◌, ◌≢◌, ◌⊎◌, ℕ, Bool, true, false, ◌&&◌, cond, List, [], ◌∷◌, ◌++◌, reverse, refl, sym, ap, ◌∙◌, inl, inr, append_assoc, arith}
+use Rattle.std.proofs.Common.{◌≡◌, ◌≢◌, ℕ, true, false, List, [], ◌∷◌, ◌++◌, reverse, refl, sym, ap, ◌∙◌, inl, inr, append_assoc}
 use Rattle.std.specs.List.{list_all}
-use Rattle.std.proofs.lemmas.List.{append-nil, reverse-append, reverse-reverse}
+use Rattle.std.proofs.lemmas.List.{reverse-append, reverse-reverse}
+use Rattle.std.proofs.lemmas.Bool.{cases_Bool, and_parts, and_from}
 use Rattle.tag_text.specs.Parts.{is_space, without_leading_spaces, without_trailing_spaces, trimmed, closing}
 use Rattle.tag_text.specs.Spelling.{HasNoSpaceAtItsEnds, IsTagName, IsInside, LeadsTo}
-use Rattle.tag_text.proofs.Cuts.{test_cases}
 
 pub skip_space : (b : ℕ) (bs : List ℕ) → is_space b ≡ true → without_leading_spaces (b ∷ bs) ≡ without_leading_spaces bs
 skip_space b bs space = rw space refl
@@ -16,19 +16,19 @@ keep_other b bs other = rw other refl
 left_first : (bs rest : List ℕ) (c : ℕ) → without_leading_spaces bs ≡ c ∷ rest → is_space c ≡ false
 left_first [] rest c e = absurd (cc)
 left_first (b ∷ bs) rest c e =
-    elim (test_cases (is_space b)) [
+    elim (cases_Bool (is_space b)) [
       | inl space ↦ left_first bs rest c (sym (skip_space b bs space) ∙ e)
       | inr other ↦ let h : b ∷ bs ≡ c ∷ rest = sym (keep_other b bs other) ∙ e in let first : b ≡ c = cc in ap is_space (sym first) ∙ other
     ]
 
 all_space : (b : ℕ) (bs : List ℕ) → is_space b ≡ true → list_all is_space bs ≡ true → list_all is_space (b ∷ bs) ≡ true
-all_space b bs space rest = rw (space, rest) refl
+all_space b bs space rest = and_from (is_space b) (list_all is_space bs) space rest
 
 all_first : (b : ℕ) (bs : List ℕ) → list_all is_space (b ∷ bs) ≡ true → is_space b ≡ true
-all_first b bs all = elim (test_cases (is_space b)) [ inl space ↦ space | inr other ↦ absurd (let h : false ≡ true = sym (ap (λ t. t && list_all is_space bs) other) ∙ all in cc) ]
+all_first b bs all = (and_parts (is_space b) (list_all is_space bs) all).0
 
 all_rest : (b : ℕ) (bs : List ℕ) → list_all is_space (b ∷ bs) ≡ true → list_all is_space bs ≡ true
-all_rest b bs all = sym (ap (λ t. t && list_all is_space bs) (all_first b bs all)) ∙ all
+all_rest b bs all = (and_parts (is_space b) (list_all is_space bs) all).1
 
 all_append : (bs cs : List ℕ) → list_all is_space bs ≡ true → list_all is_space cs ≡ true → list_all is_space (bs ++ cs) ≡ true
 all_append [] cs p q = q
@@ -47,7 +47,7 @@ pub record Leads (bs kept : List ℕ) : Type 0 where
 leading : (bs : List ℕ) → Leads bs (without_leading_spaces bs)
 leading [] = record { front = []; is = refl; spaces = refl }
 leading (b ∷ bs) =
-    elim (test_cases (is_space b)) [
+    elim (cases_Bool (is_space b)) [
       | inl space ↦ let h = leading bs in record { front = b ∷ h.front; is = ap (λ t. b ∷ t) h.is ∙ ap (λ t. b ∷ (h.front ++ t)) (sym (skip_space b bs space)); spaces = all_space b h.front space h.spaces }
       | inr other ↦ record { front = []; is = sym (keep_other b bs other); spaces = refl }
     ]
@@ -102,11 +102,11 @@ keeps [] other = refl
 keeps (b ∷ bs) other = keep_other b bs (other b bs refl)
 
 other_first : (name : List ℕ) → HasNoSpaceAtItsEnds name → (b : ℕ) (rest : List ℕ) → name ≡ b ∷ rest → is_space b ≡ false
-other_first name ends b rest e = elim (test_cases (is_space b)) [ inl space ↦ absurd ((ends b space rest).0 e) | inr other ↦ other ]
+other_first name ends b rest e = elim (cases_Bool (is_space b)) [ inl space ↦ absurd ((ends b space rest).0 e) | inr other ↦ other ]
 
 other_last : (name : List ℕ) → HasNoSpaceAtItsEnds name → (b : ℕ) (rest : List ℕ) → reverse name ≡ b ∷ rest → is_space b ≡ false
 other_last name ends b rest e =
-    elim (test_cases (is_space b)) [
+    elim (cases_Bool (is_space b)) [
       | inl space ↦ absurd ((ends b space (reverse rest)).1 (sym (reverse-reverse name) ∙ ap reverse e ∙ reverse-append (b ∷ []) rest))
       | inr other ↦ other
     ]

@@ -1,14 +1,15 @@
 -- What is parsed is spelled so, and only so.
-use Rattle.std.proofs.Common.{◌≡◌, ◌≢◌, ◌⊎◌, ℕ, zero, suc, ◌+◌, ◌≤◌, ◌<◌, Bool, true, false, ◌==◌, List, [], ◌∷◌, ◌++◌, length, Option, Some, None, Result, Ok, Err, refl, sym, ap, subst, ◌∙◌, inl, inr, append_assoc, length-append, arith}
+use Rattle.std.proofs.Common.{◌≡◌, ◌≢◌, ℕ, zero, suc, ◌<◌, ◌==◌, List, [], ◌∷◌, ◌++◌, length, Result, Ok, Err, refl, sym, ap, subst, ◌∙◌, inl, inr, append_assoc, arith}
 use Rattle.std.proofs.lemmas.List.{append-nil}
 use Rattle.std.proofs.lemmas.Bool.Decides.{Decides-eqb}
+use Rattle.std.proofs.lemmas.Bool.{cases_Bool}
 use Rattle.tag_text.specs.declared.part.Part.{Part}
 use Rattle.tag_text.specs.declared.part.Part.TheVariants.{Plain, Tag}
 use Rattle.tag_text.specs.declared.refused.TagRefused.{TagRefused}
-use Rattle.tag_text.specs.declared.refused.TagRefused.TheVariants.{Unclosed, EmptyTag, Expression}
-use Rattle.tag_text.specs.Parts.{Parsed, opening, closing, cut, trimmed, as_it_stands, tag_named, followed, tag_then, parsed}
-use Rattle.tag_text.specs.Spelling.{Lacks, LeadsTo, IsTagName, StandsBefore, AreParts, IsInside, IsWritten, Spells}
-use Rattle.tag_text.proofs.Cuts.{test_cases, cuts, cut_none, cut_some, nothing_leads}
+use Rattle.tag_text.specs.declared.refused.TagRefused.TheVariants.{Expression}
+use Rattle.tag_text.specs.Parts.{Parsed, opening, closing, trimmed, as_it_stands, tag_named, followed, tag_then, parsed}
+use Rattle.tag_text.specs.Spelling.{Lacks, LeadsTo, IsTagName, AreParts, IsInside, IsWritten, Spells}
+use Rattle.tag_text.proofs.Cuts.{cuts, cut_none, cut_some, nothing_leads}
 use Rattle.tag_text.proofs.Parsing.{cut_shorter, parsed_plain, parsed_unclosed, parsed_tag}
 use Rattle.tag_text.proofs.Spaces.{trimmed_ends, trimmed_inside, trimmed_name}
 
@@ -21,7 +22,7 @@ pub record IsMade (name : List ℕ) (tag : Part) : Type 0 where
 made : (name : List ℕ) (tag : Part) → tag_named name ≡ Ok tag → IsMade name tag
 made [] tag e = absurd (cc)
 made (b ∷ bs) tag e =
-    elim (test_cases (b == 61)) [
+    elim (cases_Bool (b == 61)) [
       | inl equals ↦ absurd (let h : tag_named (b ∷ bs) ≡ Err Expression = rw equals refl in cc)
       | inr differs ↦
           let h : tag_named (b ∷ bs) ≡ Ok (Tag (b ∷ bs)) = rw differs refl in
@@ -35,7 +36,7 @@ made (b ∷ bs) tag e =
 named : (name : List ℕ) → name ≢ [] → ((rest : List ℕ) → name ≢ 61 ∷ rest) → tag_named name ≡ Ok (Tag name)
 named [] some simple = absurd (some refl)
 named (b ∷ bs) some simple =
-    elim (test_cases (b == 61)) [
+    elim (cases_Bool (b == 61)) [
       | inl equals ↦ absurd (simple bs (ap (λ c. c ∷ bs) ((Decides-eqb b 61).0 equals)))
       | inr differs ↦ rw differs refl
     ]

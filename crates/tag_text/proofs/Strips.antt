@@ -1,17 +1,16 @@
 -- What taking a space off a text leaves, and what a search for a mark found.
-use Rattle.std.proofs.Common.{◌≡◌, ◌≢◌, ◌<◌, ◌||◌, nat_eq, ℕ, true, false, List, [], ◌∷◌, ◌++◌, length, reverse, take, drop, Option, Some, None, MatchOption, IfSome, IfNone, refl, sym, ap, subst, ◌∙◌, inl, inr, length-append, arith, Bor}
-use Rattle.std.specs.Str.Pattern.{FindsCharPrefix, FindsCharSuffix, FindsText, SplitsAroundMatch, StripsPrefix, StripsSuffix}
+use Rattle.std.proofs.Common.{◌≡◌, ◌≢◌, ◌||◌, nat_eq, ℕ, true, List, [], ◌∷◌, ◌++◌, reverse, drop, Option, Some, None, MatchOption, IfNone, refl, sym, ap, ◌∙◌, inl, inr, Bor}
+use Rattle.std.specs.Str.Pattern.{FindsText, SplitsAroundMatch}
 use Rattle.std.proofs.lemmas.List.{reverse-append, reverse-reverse}
-use Rattle.std.proofs.lemmas.Str.Pattern.{strip_prefix_char, strip_suffix_char}
 use Rattle.std.proofs.lemmas.Bool.Decides.{Decides-eqb}
+use Rattle.std.proofs.lemmas.Bool.{cases_Bool}
 use Rattle.tag_text.specs.Parts.{cut, is_space, without_leading_spaces, without_trailing_spaces}
-use Rattle.tag_text.proofs.Cuts.{test_cases, found_none, found_some}
-use Rattle.tag_text.proofs.Parsing.{cut_shorter}
+use Rattle.tag_text.proofs.Cuts.{found_none, found_some}
 use Rattle.tag_text.proofs.Spaces.{skip_space, keep_other}
 
 space_is : (b : ℕ) → is_space b ≡ true → b ≢ 32 → b ≡ 9
 space_is b space differs =
-    elim (test_cases (nat_eq b 32)) [
+    elim (cases_Bool (nat_eq b 32)) [
       | inl equals ↦ absurd (differs ((Decides-eqb b 32).0 equals))
       | inr other ↦ (Decides-eqb b 9).0 (sym (ap (λ t. t || nat_eq b 9) other) ∙ space)
     ]
@@ -20,7 +19,7 @@ space_is b space differs =
 pub front_kept : (bs : List ℕ) → ((rest : List ℕ) → bs ≢ 32 ∷ rest) → ((rest : List ℕ) → bs ≢ 9 ∷ rest) → without_leading_spaces bs ≡ bs
 front_kept [] space tab = refl
 front_kept (b ∷ bs) space tab =
-    elim (test_cases (is_space b)) [
+    elim (cases_Bool (is_space b)) [
       | inl blank ↦ absurd (tab bs (ap (λ c. c ∷ bs) (space_is b blank (λ e. space bs (ap (λ c. c ∷ bs) e)))))
       | inr other ↦ keep_other b bs other
     ]

@@ -1,0 +1,7 @@
+pub mod Formats
+pub mod Numerals
+pub mod Saying
+pub mod Telling
+pub mod Spoken
+pub mod Wholes
+pub mod Writing

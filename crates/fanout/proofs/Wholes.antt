@@ -1,0 +1,54 @@
+-- Whether the values of a list have whole numbers, value by value.
+use Rattle.std.proofs.Common.{◌≡◌, ℕ, suc, zero, ◌+◌, ◌<◌, Bool, true, false, ◌&&◌, List, [], ◌∷◌, length, get_or, drop, map, arith, refl, ap, ◌∙◌, add-one, Vec, Global, Ok, Err, ◌≤◌}
+use Rattle.std.proofs.lemmas.List.{length-map}
+use Rattle.std.specs.Prelude.{nat_le}
+use Rattle.std.specs.List.{list_all}
+use Rattle.std.proofs.lemmas.Bool.{cond-true, cond-false, lt-leb, le-leb}
+use Rattle.tree_types.specs.declared.node.Note.TheVariants as note
+use Rattle.serde_json.specs.Data.{Data}
+use Rattle.serde_json.proofs.Views.{view-Array}
+use Rattle.serde_json.specs.View.{view, items_view, items_of}
+use Rattle.serde_json.specs.declared.value.Value.{Value, Array}
+use Rattle.fanout.specs.Items.{is_whole, are_whole, list_of, few_items, checked_items, items_of_data}
+use Rattle.fanout.specs.Sequences.{most_items}
+use Rattle.std.proofs.Math.Seq.{drop-cons}
+
+pub are_whole-drop : (vs : List Value) (i : ℕ) (d : Value) → i < length vs → are_whole (items_view (drop i vs)) ≡ (is_whole (view (get_or vs i d)) && are_whole (items_view (drop (i + 1) vs)))
+are_whole-drop vs i d at = rw (add-one, drop-cons vs i d) refl
+
+pub bad_item : (vs : List Value) (i : ℕ) (d : Value) → i < length vs → is_whole (view (get_or vs i d)) ≡ false → are_whole (items_view (drop i vs)) ≡ false
+bad_item vs i d at bad = are_whole-drop vs i d at ∙ ap (λ b. b && are_whole (items_view (drop (i + 1) vs))) bad
+
+pub good_item : (vs : List Value) (i : ℕ) (d : Value) → i < length vs → is_whole (view (get_or vs i d)) ≡ true → are_whole (items_view (drop i vs)) ≡ are_whole (items_view (drop (i + 1) vs))
+good_item vs i d at good = are_whole-drop vs i d at ∙ ap (λ b. b && are_whole (items_view (drop (i + 1) vs))) good
+
+-- ---- a JSON list's items
+
+list_of-items_of : (ds : List Data) → list_of (items_of ds) ≡ ds
+list_of-items_of [] = refl
+list_of-items_of (d ∷ ds) = ap (λ x. d ∷ x) (list_of-items_of ds)
+
+list_all-are_whole : (ds : List Data) → list_all is_whole ds ≡ are_whole (items_of ds)
+list_all-are_whole [] = refl
+list_all-are_whole (d ∷ ds) = ap (λ b. is_whole d && b) (list_all-are_whole ds)
+
+items_of_data-Array : (v : Vec Value Global) → items_of_data (view (Array v)) ≡ checked_items (map view v.items)
+items_of_data-Array v = ap items_of_data (view-Array v) ∙ ap checked_items (list_of-items_of (map view v.items))
+
+pub bad_items : (v : Vec Value Global) → are_whole (items_view v.items) ≡ false → items_of_data (view (Array v)) ≡ Err note.BadItem
+bad_items v bad =
+    items_of_data-Array v ∙ cond-false (list_all is_whole (map view v.items)) (few_items (map view v.items)) (Err note.BadItem) (list_all-are_whole (map view v.items) ∙ bad)
+
+whole_items : (v : Vec Value Global) → are_whole (items_view v.items) ≡ true → items_of_data (view (Array v)) ≡ few_items (map view v.items)
+whole_items v good =
+    items_of_data-Array v ∙ cond-true (list_all is_whole (map view v.items)) (few_items (map view v.items)) (Err note.BadItem) (list_all-are_whole (map view v.items) ∙ good)
+
+pub many_items : (v : Vec Value Global) → are_whole (items_view v.items) ≡ true → 1000 < length v.items → items_of_data (view (Array v)) ≡ Err note.TooManyItems
+many_items v good many =
+    let long : 1000 < length (map view v.items) = omega (arith, length-map {B = Data} v.items view) in
+    whole_items v good ∙ cond-false (nat_le (length (map view v.items)) most_items) (Ok (map view v.items)) (Err note.TooManyItems) (lt-leb (length (map view v.items)) 1000 long)
+
+pub good_items : (v : Vec Value Global) → are_whole (items_view v.items) ≡ true → length v.items ≤ 1000 → items_of_data (view (Array v)) ≡ Ok (map view v.items)
+good_items v good few =
+    let short : length (map view v.items) ≤ 1000 = omega (arith, length-map {B = Data} v.items view) in
+    whole_items v good ∙ cond-true (nat_le (length (map view v.items)) most_items) (Ok (map view v.items)) (Err note.TooManyItems) (le-leb (length (map view v.items)) 1000 short)

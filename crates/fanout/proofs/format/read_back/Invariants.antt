@@ -1,0 +1,12 @@
+use Rattle.std.proofs.Common.{◌≡◌, ℕ, List, ◌++◌, length, option_map}
+use denote.Text.{Utf8}
+use denote.Shadow.{shadow}
+use Rattle.fanout.specs.Shapes.{plain, parts_in}
+use Rattle.fanout.proofs.format.read_back.Given as goal
+
+abbrev pub invariant-loop-plain : goal.invariant-loop-plain
+invariant-loop-plain l =
+    shadow (Utf8 l.rest) × (parts_in l.text ≡ option_map (λ qs. plain l.after ++ qs) (parts_in l.rest))
+
+abbrev pub decreases-loop-plain : goal.decreases-loop-plain
+decreases-loop-plain l = length l.rest

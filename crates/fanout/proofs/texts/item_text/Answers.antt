@@ -1,0 +1,14 @@
+use Rattle.std.proofs.Common.{◌≡◌, false, None, sym, ap, ◌∙◌}
+use Rattle.serde_json.specs.Find.{as_str}
+use Rattle.serde_json.specs.View.{view}
+use Rattle.serde_json.specs.Written.{has_float}
+use Rattle.fanout.specs.ItemTexts.{item_text}
+use Rattle.fanout.proofs.Spoken.{item_text-other, has_float-is_whole}
+use Rattle.fanout.proofs.texts.item_text.Goals as goal
+
+pub returns-in_ok-to_string-in-None : goal.returns-in_ok-to_string-in-None
+returns-in_ok-to_string-in-None c =
+    let value = c.value-value.result.now in
+    let whole : has_float (view value) ≡ false = ap has_float c.value-value.ensures ∙ has_float-is_whole c.args.item.now c.requires in
+    let none : as_str (view value) ≡ None = sym c.in-None.ensures in
+    c.from_string.ensures ∙ c.in_ok-to_string-in-None.ensures.text whole ∙ sym (item_text-other (view value) none) ∙ ap item_text c.value-value.ensures

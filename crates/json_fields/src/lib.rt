@@ -1,0 +1,15 @@
+//! Fields of a JSON object, taken by name and kind, and the paths at which they stand.
+#![tactic(auto)]
+
+mod path;
+mod refused;
+mod take;
+#[cfg(test)]
+mod tests;
+
+pub use base_types::Text as FieldText;
+pub use path::FieldPath;
+pub use refused::FieldRefused;
+pub use take::{
+    refuse, says_nothing, take_any_text, take_flag, take_list, take_object, take_text, take_whole,
+};
