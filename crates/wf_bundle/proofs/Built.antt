@@ -1,13 +1,12 @@
 -- A document of the form says a manifest of the forms that trees are computed for, by the test that the evaluator's crate has
 -- for them. That crate does not stand below this one, so the test is written here again, word by word.
-use Rattle.std.proofs.Common.{◌≡◌, ℕ, ◌≤◌, List, [], ◌∷◌, length, Bool, true, false, not, ◌&&◌, ◌||◌, nat_lt, nat_le, Option, Some, None, Result, Ok, Err, refl, sym, ap, subst, ◌∙◌, map}
+use Rattle.std.proofs.Common.{◌≡◌, ℕ, List, [], ◌∷◌, length, Bool, true, false, not, ◌&&◌, ◌||◌, nat_lt, nat_le, Option, Some, None, Ok, refl, sym, subst, ◌∙◌}
 use Rattle.std.specs.Prelude.{IsTrue, is_some, is_none, bytes_eq, codes}
 use Rattle.std.specs.List.{AllByRecursion, list_all, list_any, find}
 use Rattle.std.specs.Cmp.Lexicographic.{bytes_decides}
 use Rattle.std.proofs.lemmas.Bool.{and_parts, and_from, le-leb}
 use Rattle.std.proofs.lemmas.List.Folds.{list_all-append}
 use Rattle.serde_json.specs.Data.{Data, Items, no_items, item}
-use Rattle.json_fields.specs.Paths.{Path}
 use Rattle.node_names.specs.Names.{is_name_byte}
 use Rattle.wf_manifest.specs.declared.calls.Call.{Call}
 use Rattle.wf_manifest.specs.declared.templates.Body.{Body}
@@ -15,14 +14,13 @@ use Rattle.wf_manifest.specs.declared.templates.Body.TheVariants as body
 use Rattle.wf_manifest.specs.declared.templates.Template.{Template}
 use Rattle.wf_manifest.specs.declared.manifest.Manifest.{Manifest}
 use Rattle.field_kinds.specs.Reading.{Read, ◌>>=◌, Kind}
-use Rattle.field_kinds.specs.Kinds.{text, of, json_object, object_of, list_of}
+use Rattle.field_kinds.specs.Kinds.{text, json_object, object_of, list_of}
 use Rattle.field_kinds.specs.Fields.{optional, required, no_second}
 use Rattle.field_kinds.proofs.Makes.{Makes, then_ok, ok_is, makes_object, makes_list, makes_list-length, makes_required}
 use Rattle.wf_reader.specs.declared.bodies.BodyKind.{BodyKind}
 use Rattle.wf_reader.specs.declared.bodies.BodyKind.TheVariants as field
 use Rattle.wf_reader.specs.declared.workflow.Spec.{Spec}
 use Rattle.wf_reader.specs.Members.{only}
-use Rattle.wf_reader.specs.Names.{workflow_name}
 use Rattle.wf_reader.specs.Workflows.{step_fields, group, first_body, is_container, body_by, body_in, template_fields, metadata_fields, spec_fields, manifest_of, workflow_fields, workflow}
 use Rattle.wf_bundle.specs.declared.outcome.Plan.{Plan}
 use Rattle.wf_bundle.specs.declared.form.Form.{Form}

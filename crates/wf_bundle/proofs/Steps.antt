@@ -1,10 +1,10 @@
 -- One turn of the loops over groups, names and pods, and look-ups in the kept pods.
-use Rattle.std.proofs.Common.{◌≡◌, ℕ, suc, ◌+◌, ◌-◌, ◌<◌, ◌≤◌, List, [], ◌∷◌, ◌++◌, length, get_or, drop, take, map, Bool, true, false, not, cond, ◌||◌, ◌&&◌, Option, Some, None, refl, sym, ap, subst, ◌∙◌, append_assoc, add-one, drop-cons, nat_eq, arith}
+use Rattle.std.proofs.Common.{◌≡◌, ℕ, suc, ◌+◌, ◌-◌, ◌<◌, ◌≤◌, List, [], ◌∷◌, ◌++◌, length, get_or, drop, take, Bool, true, false, cond, ◌||◌, Option, Some, None, refl, sym, ap, ◌∙◌, append_assoc, add-one, drop-cons, nat_eq, arith}
 use Rattle.std.specs.Prelude.{bytes_eq, codes, is_some, option_map, if◌then◌else◌}
 use Rattle.std.specs.List.{list_any, find, starts_with}
 use Rattle.std.specs.Map.{lookup}
 use Rattle.std.specs.Cmp.Lexicographic.{nat_list_eq_equiv}
-use Rattle.std.proofs.lemmas.List.{take_more, map-append}
+use Rattle.std.proofs.lemmas.List.{map-append}
 use Rattle.std.proofs.lemmas.Grind.{common_steps}
 use Rattle.std.proofs.lemmas.List.Folds.{list_any-append}
 use Rattle.serde_json.specs.declared.value.Value.{Value}
@@ -17,7 +17,7 @@ use Rattle.wf_bundle.specs.declared.outcome.PlannedPod.{PlannedPod}
 use Rattle.wf_bundle.specs.declared.outcomes.PodName.{PodName}
 use Rattle.wf_bundle.specs.Names.{is_among}
 use Rattle.wf_bundle.specs.Checks.{calls_in, has_tag, is_same_pod, not_built}
-use Rattle.wf_bundle.specs.Outcomes.{is_for, or_default, named}
+use Rattle.wf_bundle.specs.Outcomes.{is_for, named}
 use Rattle.wf_bundle.specs.Pods.{is_pod_named, pod_of, pods_of}
 
 -- ---- groups
