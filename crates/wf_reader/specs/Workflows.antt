@@ -7,7 +7,7 @@ use Rattle.wf_manifest.specs.declared.templates.Body.{Body}
 use Rattle.wf_manifest.specs.declared.templates.Body.TheVariants as body
 use Rattle.wf_manifest.specs.declared.templates.Template.{Template}
 use Rattle.wf_manifest.specs.declared.manifest.Manifest.{Manifest}
-use Rattle.field_kinds.specs.Reading.{Read, ◌>>=◌, Kind, refuse_by}
+use Rattle.field_kinds.specs.Reading.{◌>>=◌, Kind, refuse_by}
 use Rattle.field_kinds.specs.Kinds.{text, of, json_object, object_of, list_of}
 use Rattle.field_kinds.specs.Fields.{optional, required, has, no_second}
 use Rattle.wf_reader.specs.declared.bodies.BodyKind.{BodyKind}
