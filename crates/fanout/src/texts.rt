@@ -36,7 +36,7 @@ pub fn name_text(alloc: Global, item: &Json) -> Result<Text, Memory>
     Ok(name)
 }
 
-fn value_text(alloc: Global, value: &Value) -> Result<Text, Memory>
+pub(crate) fn value_text(alloc: Global, value: &Value) -> Result<Text, Memory>
     requires { IsTrue (is_whole (view value.now)) }
     ensures { IfOk result (λ text. text ≡ text_of_item (view value.now)) }
 {
