@@ -1,14 +1,14 @@
 -- The value of an expression's steps is its truth, and finds room.
-use Rattle.std.specs.Prelude.{◌≡◌, ℕ, zero, suc, ◌<◌, ◌≤◌, ◌+◌, ◌-◌, List, [], ◌∷◌, ◌++◌, length, map, max, Bool, true, false, not, ◌&&◌, ◌||◌, nat_lt, IsTrue, refl, slice_get, Option, Some, None}
-use Rattle.std.proofs.Common.{ap, sym, subst, ◌∙◌, arith, append_assoc, append-nil}
+use Rattle.std.specs.Prelude.{◌≡◌, ℕ, zero, suc, ◌<◌, ◌≤◌, ◌+◌, ◌-◌, List, [], ◌∷◌, ◌++◌, length, map, Bool, true, ◌&&◌, nat_lt, IsTrue, refl, slice_get, slice_index_or}
+use Rattle.std.proofs.Common.{ap, sym, ◌∙◌, arith, append_assoc, append-nil}
 use Rattle.std.specs.List.{list_all}
-use Rattle.std.proofs.lemmas.Bool.{and_parts, lt-ltb, ltb-true}
+use Rattle.std.proofs.lemmas.Bool.{and_parts, and_from, lt-ltb, ltb-true}
 use Rattle.depends_expr.specs.declared.results.TaskResult.{TaskResult}
 use Rattle.depends_expr.specs.declared.steps.Step.{Step}
 use Rattle.depends_expr.specs.declared.steps.Step.TheVariants.{Bare, Has, Not, And, Or}
 use Rattle.depends_expr.specs.Expression.{Expression, bare, has, negation, both, either}
 use Rattle.depends_expr.specs.Truth.{holds, bare_holds, truth}
-use Rattle.depends_expr.specs.Postfix.{word_of, postfix, build, built, expression_of}
+use Rattle.depends_expr.specs.Postfix.{word_of, postfix, build, built}
 use Rattle.depends_expr.specs.View.{found, with_name, named_expression, is_position_below, peak, IsWhole}
 use Rattle.depends_expr.specs.Values.{result_at, value_of, values, top_value, has_room, values_after, fits}
 use Rattle.depends_expr.proofs.Postfixes.{built_postfix}
@@ -36,11 +36,14 @@ steps_value of names (s ∷ ss) es h =
     let parts = and_parts (is_position_below (length names) s) (list_all (is_position_below (length names)) ss) h in
     ap (λ bs. values (map of names) ss bs) (step_value of names s es parts.0) ∙ steps_value of names ss (build (with_name names s) es) parts.1
 
-pub whole_value : (of : List ℕ → TaskResult) (names : List (List ℕ)) (ss : List (Step ℕ)) (results : List TaskResult) → IsWhole names ss → map of names ≡ results → top_value (values results ss []) ≡ truth of (named_expression names ss)
-whole_value of names ss results h p =
+one_value : (of : List ℕ → TaskResult) (names : List (List ℕ)) (ss : List (Step ℕ)) (results : List TaskResult) → IsWhole names ss → map of names ≡ results → values results ss [] ≡ truth of (named_expression names ss) ∷ []
+one_value of names ss results h p =
     let e = named_expression names ss in
     let alone : built (map (with_name names) ss) [] ≡ e ∷ [] = ap (λ x. built x []) (h.whole ∙ sym (append-nil (postfix e))) ∙ built_postfix e [] [] in
-    ap (λ rs. top_value (values rs ss [])) (sym p) ∙ ap top_value (steps_value of names ss [] h.positions) ∙ ap (λ es. top_value (map (truth of) es)) alone
+    ap (λ rs. values rs ss []) (sym p) ∙ steps_value of names ss [] h.positions ∙ ap (λ es. map (truth of) es) alone
+
+pub whole_value : (of : List ℕ → TaskResult) (names : List (List ℕ)) (ss : List (Step ℕ)) (results : List TaskResult) → IsWhole names ss → map of names ≡ results → top_value (values results ss []) ≡ truth of (named_expression names ss)
+whole_value of names ss results h p = ap top_value (one_value of names ss results h p)
 
 -- ---- room
 
@@ -60,30 +63,51 @@ fits_names names (s ∷ ss) d =
 true_and : (b c : Bool) → b ≡ true → (b && c) ≡ c
 true_and b c h = ap (λ x. x && c) h
 
+some_peak : (e : Expression) → 0 < peak e
+some_peak (bare n) = omega arith
+some_peak (has n w) = omega arith
+some_peak (negation e) = some_peak e
+some_peak (both d e) = omega arith
+some_peak (either d e) = omega arith
+
+between : (n d m : ℕ) → n < d → d < m → (nat_lt n d && nat_lt d m) ≡ true
+between n d m g h = and_from _ _ (lt-ltb n d g) (lt-ltb d m h)
+
 fits_postfix : (e : Expression) (rest : List (Step (List ℕ))) (d : ℕ) → d + peak e ≤ 131 → fits d (postfix e ++ rest) ≡ fits (d + 1) rest
 fits_postfix (bare n) rest d h = let room : d < 131 = omega arith in true_and (nat_lt d 131) _ (lt-ltb d 131 room)
 fits_postfix (has n w) rest d h = let room : d < 131 = omega arith in true_and (nat_lt d 131) _ (lt-ltb d 131 room)
 fits_postfix (negation e) rest d h =
+    let some = some_peak e in
     let one : 0 < d + 1 = omega arith in
-    ap (λ x. fits d x) (append_assoc (postfix e) (Not ∷ []) rest) ∙ fits_postfix e (Not ∷ rest) d h ∙ true_and (nat_lt 0 (d + 1)) _ (lt-ltb 0 (d + 1) one)
+    let few : d + 1 < 132 = omega (arith, some) in
+    ap (λ x. fits d x) (append_assoc (postfix e) (Not ∷ []) rest) ∙ fits_postfix e (Not ∷ rest) d h ∙ true_and (nat_lt 0 (d + 1) && nat_lt (d + 1) 132) _ (between 0 (d + 1) 132 one few)
 fits_postfix (both d e) rest n h =
     let left : n + peak d ≤ 131 = omega arith in
     let right : (n + 1) + peak e ≤ 131 = omega arith in
+    let some = some_peak e in
     let two : 1 < (n + 1) + 1 = omega arith in
+    let few : (n + 1) + 1 < 132 = omega (arith, some) in
     let back : (n + 1) + 1 - 1 ≡ n + 1 = omega arith in
     ap (λ x. fits n x) (append_assoc (postfix d) (postfix e ++ And ∷ []) rest ∙ ap (λ x. postfix d ++ x) (append_assoc (postfix e) (And ∷ []) rest))
     ∙ fits_postfix d (postfix e ++ (And ∷ rest)) n left ∙ fits_postfix e (And ∷ rest) (n + 1) right
-    ∙ true_and (nat_lt 1 ((n + 1) + 1)) _ (lt-ltb 1 ((n + 1) + 1) two) ∙ ap (λ x. fits x rest) back
+    ∙ true_and (nat_lt 1 ((n + 1) + 1) && nat_lt ((n + 1) + 1) 132) _ (between 1 ((n + 1) + 1) 132 two few) ∙ ap (λ x. fits x rest) back
 fits_postfix (either d e) rest n h =
     let left : n + peak d ≤ 131 = omega arith in
     let right : (n + 1) + peak e ≤ 131 = omega arith in
+    let some = some_peak e in
     let two : 1 < (n + 1) + 1 = omega arith in
+    let few : (n + 1) + 1 < 132 = omega (arith, some) in
     let back : (n + 1) + 1 - 1 ≡ n + 1 = omega arith in
     ap (λ x. fits n x) (append_assoc (postfix d) (postfix e ++ Or ∷ []) rest ∙ ap (λ x. postfix d ++ x) (append_assoc (postfix e) (Or ∷ []) rest))
     ∙ fits_postfix d (postfix e ++ (Or ∷ rest)) n left ∙ fits_postfix e (Or ∷ rest) (n + 1) right
-    ∙ true_and (nat_lt 1 ((n + 1) + 1)) _ (lt-ltb 1 ((n + 1) + 1) two) ∙ ap (λ x. fits x rest) back
+    ∙ true_and (nat_lt 1 ((n + 1) + 1) && nat_lt ((n + 1) + 1) 132) _ (between 1 ((n + 1) + 1) 132 two few) ∙ ap (λ x. fits x rest) back
 
 pub whole_fits : (names : List (List ℕ)) (ss : List (Step ℕ)) → IsWhole names ss → IsTrue (fits 0 ss)
 whole_fits names ss h =
     let e = named_expression names ss in
     sym (fits_names names ss 0) ∙ ap (λ x. fits 0 x) (h.whole ∙ sym (append-nil (postfix e))) ∙ (let low : 0 + peak e ≤ 131 = omega (arith, h.low) in fits_postfix e [] 0 low)
+
+pub result_got : (rs : List TaskResult) (i : ℕ) (r : TaskResult) → i < length rs → r ≡ slice_index_or rs i r → result_at rs i ≡ r
+result_got [] i r h p = absurd (omega arith)
+result_got (x ∷ xs) zero r h p = sym p
+result_got (x ∷ xs) (suc i) r h p = result_got xs i r (omega arith) p

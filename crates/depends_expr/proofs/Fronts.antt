@@ -1,13 +1,13 @@
 -- Where the longest front ends that some text of the grammar begins with.
-use Rattle.std.specs.Prelude.{◌≡◌, ℕ, zero, suc, ◌<◌, ◌≤◌, ◌+◌, List, [], ◌∷◌, ◌++◌, length, take, Bool, true, false, ◌&&◌, ◌||◌, ◌==◌, IsTrue, Option, Some, None, refl, codes}
-use Rattle.std.proofs.Common.{ap, sym, subst, ◌∙◌, arith, rules, append_assoc, append-nil, length-append, inl, inr}
+use Rattle.std.specs.Prelude.{◌≡◌, ℕ, zero, suc, ◌≤◌, List, [], ◌∷◌, ◌++◌, length, take, ◌==◌, IsTrue, Option, Some, None, refl}
+use Rattle.std.proofs.Common.{ap, sym, subst, ◌∙◌, arith, append_assoc, inl, inr}
 use Rattle.std.specs.List.{list_any}
-use Rattle.std.proofs.lemmas.Bool.{false≢true, and_parts, or_cases, cond_both, eqb-true}
-use Rattle.depends_expr.specs.Expression.{Word, Expression, bare, has, negation, both, either}
-use Rattle.depends_expr.specs.Grammar.{Text, is_name, spelling, Spaces, no_space, Not, result_of, IsDepends, IsStart, StartEndsAt, IsBadAt}
-use Rattle.depends_expr.specs.Reading.{State, start, wants, in_name, in_result, done, half_and, half_or, Around, Level, operand, negate, joined, times, plus, step, read, then_read, place, then_place, words, behind, is_found, begins_word}
+use Rattle.std.proofs.lemmas.Bool.{false≢true, or_cases, cond_both, eqb-true}
+use Rattle.depends_expr.specs.Expression.{Word, Expression, bare, has}
+use Rattle.depends_expr.specs.Grammar.{Text, spelling, no_space, result_of, IsDepends, IsStart, StartEndsAt, IsBadAt}
+use Rattle.depends_expr.specs.Reading.{State, start, wants, in_name, in_result, done, half_and, half_or, Around, Level, operand, joined, plus, step, read, then_read, place, then_place, words, behind, is_found}
 use Rattle.depends_expr.proofs.Taken.{taken}
-use Rattle.depends_expr.proofs.Held.{Holds, At, step_holds, read_holds, start_holds, operand_holds, meant, none_some, some_same}
+use Rattle.depends_expr.proofs.Held.{Holds, At, step_holds, read_holds, start_holds, operand_holds, none_some, some_same}
 
 -- ---- each state can be completed
 
@@ -43,16 +43,19 @@ found_rest (Some r) h = (r, refl)
 begun_word : (part : Text) (ws : List Word) → IsTrue (list_any (λ w. is_found (behind part (spelling w))) ws) → (w : Word) × (r : Text) × (spelling w ≡ part ++ r)
 begun_word part [] h = absurd (false≢true h)
 begun_word part (w ∷ ws) h = elim (or_cases (is_found (behind part (spelling w))) (list_any (λ w. is_found (behind part (spelling w))) ws) h) [
-    inl e ↦ (let found = found_rest (behind part (spelling w)) e in (w, found.0, behind_is part (spelling w) found.0 found.1))
-    | inr e ↦ begun_word part ws e ]
+  | inl e ↦ (let found = found_rest (behind part (spelling w)) e in (w, found.0, behind_is part (spelling w) found.0 found.1))
+  | inr e ↦ begun_word part ws e
+]
 
 result_completes : (name part : Text) (a : Around) (w : Word) (r : Text) → spelling w ≡ part ++ r → (q : Text) × Completes (in_result name part a) q
 result_completes name part a w r p =
-    let rest = operand_closed (has name w) a in
-    (r ++ rest.0, λ T h.
-        let whole : part ++ (r ++ rest.0) ≡ spelling w ++ rest.0 = sym (append_assoc part r rest.0) ∙ ap (λ x. x ++ rest.0) (sym p) in
-        let there = subst (λ x. At T a.level a.outer (name ++ (46 ∷ x))) whole h.0 in
-        (rest.1, read_holds T _ rest.0 rest.1 rest.2 (operand_holds T (has name w) a.level a.outer _ rest.0 there (result_of name w h.1 no_space))))
+    let rest = operand_closed (has name w) a in (
+      r ++ rest.0,
+      λ T h.
+          let whole : part ++ (r ++ rest.0) ≡ spelling w ++ rest.0 = sym (append_assoc part r rest.0) ∙ ap (λ x. x ++ rest.0) (sym p) in
+          let there = subst (λ x. At T a.level a.outer (name ++ (46 ∷ x))) whole h.0 in
+          (rest.1, read_holds T _ rest.0 rest.1 rest.2 (operand_holds T (has name w) a.level a.outer _ rest.0 there (result_of name w h.1 no_space))),
+    )
 
 completed : (s : State) (T r : Text) → Holds T s r → (q : Text) × Completes s q
 completed (wants a) T r h = let rest = operand_closed (bare (65 ∷ [])) a in (65 ∷ (32 ∷ rest.0), by_reading (wants a) (65 ∷ (32 ∷ rest.0)) rest.1 rest.2)
@@ -128,10 +131,10 @@ place_longest s (b ∷ t) (suc k) x l h = on_place_longest (step s b) t k x (ome
 -- the place where reading stops is that of the fault
 pub place_ends : (text : Text) → StartEndsAt text (place start text)
 place_ends text = record {
-    within = place_within start text;
-    begins = (let led = place_leads start text in leads_start _ led.0 led.1);
-    longest = λ k l h. (let led = start_leads (take k text) h in place_longest start text k led.0 l led.1);
-  }
+  within = place_within start text;
+  begins = (let led = place_leads start text in leads_start _ led.0 led.1);
+  longest = λ k l h. (let led = start_leads (take k text) h in place_longest start text k led.0 l led.1);
+}
 
 -- what is not read is not of the grammar
 pub bad : (text : Text) → read start text ≡ None → IsBadAt text (place start text)

@@ -1,9 +1,9 @@
 -- Steps with positions build what the steps with names build.
-use Rattle.std.specs.Prelude.{◌≡◌, ℕ, zero, suc, ◌<◌, ◌≤◌, ◌+◌, List, [], ◌∷◌, ◌++◌, length, map, Bool, true, false, nat_lt, bytes_eq, IsTrue, refl, slice_get, Option, Some, None}
-use Rattle.std.proofs.Common.{ap, sym, subst, ◌∙◌, arith, append_assoc, append-nil, length-append, inl, inr}
+use Rattle.std.specs.Prelude.{◌≡◌, ℕ, zero, suc, ◌<◌, ◌≤◌, ◌+◌, List, [], ◌∷◌, ◌++◌, length, map, bytes_eq, IsTrue, refl, slice_get, slice_index_or, take}
+use Rattle.std.proofs.Common.{ap, sym, subst, ◌∙◌, arith, append_assoc, append-nil, length-append}
 use Rattle.std.specs.List.{list_all, list_any}
 use Rattle.std.proofs.lemmas.Bool.{and_parts, and_from, cond_both, lt-ltb, ltb-true}
-use Rattle.std.proofs.lemmas.List.{map-append}
+use Rattle.std.proofs.lemmas.List.{map-append, take_more}
 use Rattle.depends_expr.specs.declared.steps.Step.{Step}
 use Rattle.depends_expr.specs.declared.steps.Step.TheVariants.{Bare, Has, Not, And, Or}
 use Rattle.depends_expr.specs.Expression.{Expression, bare, has, negation, both, either}
@@ -95,10 +95,23 @@ numbers_none = record { firsts = refl; same = refl; positions = refl }
 
 pub numbers_whole : (names : List (List ℕ)) (xs : List (Step ℕ)) (ys : List (Step (List ℕ))) → AreSteps ys → Numbers names xs ys → peak (expression_of ys) ≤ 131 → IsWhole names xs × (named_expression names xs ≡ expression_of ys)
 numbers_whole names xs ys a h l =
-    let same : named_expression names xs ≡ expression_of ys = ap expression_of h.same in
-    (record {
-      whole = h.same ∙ a ∙ ap postfix (sym same);
-      positions = h.positions;
-      each_once = h.firsts ∙ ap (λ zs. add_names [] zs) (ap leaves a ∙ leaves_postfix (expression_of ys)) ∙ ap names_of (sym same);
-      low = subst (λ e. peak e ≤ 131) (sym same) l;
-    }, same)
+    let same : named_expression names xs ≡ expression_of ys = ap expression_of h.same in (
+      record {
+        whole = h.same ∙ a ∙ ap postfix (sym same);
+        positions = h.positions;
+        each_once = h.firsts ∙ ap (λ zs. add_names [] zs) (ap leaves a ∙ leaves_postfix (expression_of ys)) ∙ ap names_of (sym same);
+        low = subst (λ e. peak e ≤ 131) (sym same) l;
+      },
+      same,
+    )
+
+pub numbers_next : (old new : List (List ℕ)) (xs zs : List (Step ℕ)) (all : List (Step (List ℕ))) (i : ℕ) (x : Step ℕ) (y : Step (List ℕ)) → Numbers old xs (take i all) → NumbersStep old new x y → zs ≡ xs ++ x ∷ [] → i < length all → y ≡ slice_index_or all i y → Numbers new zs (take (i + 1) all)
+numbers_next old new xs zs all i x y h s p l q =
+    let one : take i all ++ y ∷ [] ≡ take (i + 1) all = ap (λ v. take i all ++ v ∷ []) q ∙ sym (take_more all i y l) in
+    subst (λ ys. Numbers new zs ys) one (subst (λ ws. Numbers new ws (take i all ++ y ∷ [])) (sym p) (numbers_more old new xs (take i all) x y h s))
+
+pub draft_whole : (names table : List (List ℕ)) (xs : List (Step ℕ)) (ys zs : List (Step (List ℕ))) (draft : Expression) → names ≡ table → ys ≡ zs → AreSteps zs → draft ≡ expression_of zs → Numbers table xs ys → peak draft ≤ 131 → IsWhole names xs × (named_expression names xs ≡ draft)
+draft_whole names table xs ys zs draft p q a v h l =
+    let there : Numbers names xs zs = subst (λ ns. Numbers ns xs zs) (sym p) (subst (λ ws. Numbers table xs ws) q h) in
+    let whole = numbers_whole names xs zs a there (subst (λ e. peak e ≤ 131) v l) in
+    (whole.0, whole.1 ∙ sym v)

@@ -1,11 +1,11 @@
 -- What is of the grammar is read.
-use Rattle.std.specs.Prelude.{◌≡◌, ℕ, zero, suc, ◌<◌, ◌≤◌, ◌+◌, ◌-◌, List, [], ◌∷◌, ◌++◌, length, Bool, true, false, ◌&&◌, nat_lt, nat_le, IsTrue, Option, Some, None, refl, codes}
-use Rattle.std.proofs.Common.{ap, sym, ◌∙◌, arith, rules, append_assoc, append-nil, length-append}
+use Rattle.std.specs.Prelude.{◌≡◌, ℕ, suc, ◌<◌, ◌≤◌, ◌+◌, ◌-◌, List, [], ◌∷◌, ◌++◌, length, Bool, true, false, ◌&&◌, nat_lt, nat_le, IsTrue, Option, Some, None, refl}
+use Rattle.std.proofs.Common.{ap, sym, ◌∙◌, arith, append_assoc, append-nil, length-append}
 use Rattle.std.specs.List.{list_all}
-use Rattle.std.proofs.lemmas.Bool.{false≢true, and_parts, ltb-true, leb-true, lt-ltb, cond-true}
-use Rattle.depends_expr.specs.Expression.{Word, succeeded, failed, errored, skipped, omitted, daemoned, any_succeeded, all_failed, Expression, bare, has, negation, both, either}
-use Rattle.depends_expr.specs.Grammar.{Text, is_space, is_name_byte, is_name, spelling, Spaces, no_space, space, Or, one_and, more_or, And, one_not, more_and, Not, not_sign, group, alone, result_of, IsDepends}
-use Rattle.depends_expr.specs.Reading.{Kind, kind, letter, blank, bang, opening, closing, ampersand, bar, dot, other, State, start, wants, in_name, in_result, done, half_and, half_or, Around, Level, fresh, on_wants, on_done, on_name, on_operand, longer_name, operand, negate, joined, times, plus, step, read, then_read}
+use Rattle.std.proofs.lemmas.Bool.{false≢true, and_parts, leb-true, lt-ltb, cond-true}
+use Rattle.depends_expr.specs.Expression.{Word, succeeded, failed, errored, skipped, omitted, daemoned, any_succeeded, all_failed, Expression, bare, has, negation, both}
+use Rattle.depends_expr.specs.Grammar.{Text, is_name_byte, is_name, spelling, Spaces, no_space, space, Or, one_and, more_or, And, one_not, more_and, Not, not_sign, group, alone, result_of, IsDepends}
+use Rattle.depends_expr.specs.Reading.{Kind, kind, letter, blank, bang, opening, closing, ampersand, bar, dot, other, start, wants, in_name, done, Around, Level, fresh, on_wants, on_done, on_name, on_operand, operand, negate, times, plus, read, then_read}
 use Rattle.depends_expr.proofs.Bytes.{space_kind, name_kind}
 
 pub spaces_wanting : {t u : Text} → Spaces t u → (a : Around) → read (wants a) t ≡ read (wants a) u
@@ -97,8 +97,8 @@ mutual
   or_read : {n : ℕ} {t r : Text} {e : Expression} → Or n t e r → IsTrue (is_end r) → OrRead n t e r
   or_read (one_and {n} {t} {r} {e} h) z = λ outer. (e, None, refl, and_read h z None outer)
   or_read (more_or {n} {t} {u} {v} {r} {d} {e} g s h) z = λ outer.
-    let left = or_read g refl outer in
-    (e, Some d, refl, left.3 ∙ ap (λ x. read (wants (record { level = at (Some x) None n; outer = outer })) u) left.2 ∙ spaces_wanting s _ ∙ and_read h z (Some d) outer)
+      let left = or_read g refl outer in
+      (e, Some d, refl, left.3 ∙ ap (λ x. read (wants (record { level = at (Some x) None n; outer = outer })) u) left.2 ∙ spaces_wanting s _ ∙ and_read h z (Some d) outer)
 
   and_read : {n : ℕ} {t r : Text} {e : Expression} → And n t e r → IsTrue (is_end r) → (sum : Option Expression) (outer : List Level) → read (wants (record { level = at sum None n; outer = outer })) t ≡ read (done e sum outer n) r
   and_read (one_not {n} {t} {r} {e} h) z sum outer = not_read h z sum None n outer (omega arith) ∙ ap (λ x. read (done x sum outer n) r) (none_open n e)
@@ -106,17 +106,17 @@ mutual
 
   not_read : {n : ℕ} {t r : Text} {e : Expression} → Not n t e r → IsTrue (is_end r) → (sum product : Option Expression) (begun : ℕ) (outer : List Level) → n ≤ begun → read (wants (record { level = record { sum = sum; product = product; begun = begun; room = n }; outer = outer })) t ≡ read (operand e (record { sum = sum; product = product; begun = begun; room = n }) outer) r
   not_read (not_sign {n} {u} {v} {r} {e} s h) z sum product begun outer l =
-    spaces_wanting s _ ∙ not_read h z sum product begun outer (omega arith) ∙ ap (λ x. read (done (times product x) sum outer begun) r) (negations begun n e l)
+      spaces_wanting s _ ∙ not_read h z sum product begun outer (omega arith) ∙ ap (λ x. read (done (times product x) sum outer begun) r) (negations begun n e l)
   not_read (group {n} {u} {v} {w} {r} {e} s h q) z sum product begun outer l =
-    let level : Level = record { sum = sum; product = product; begun = begun; room = suc n } in
-    let inside = or_read h refl (level ∷ outer) in
-    spaces_wanting s _ ∙ inside.3 ∙ ap (λ x. read (operand x level outer) w) inside.2 ∙ spaces_done q _ _ _ _
+      let level : Level = record { sum = sum; product = product; begun = begun; room = suc n } in
+      let inside = or_read h refl (level ∷ outer) in
+      spaces_wanting s _ ∙ inside.3 ∙ ap (λ x. read (operand x level outer) w) inside.2 ∙ spaces_done q _ _ _ _
   not_read (alone {n} {u} {r} name h s) z sum product begun outer l =
-    let a : Around = record { level = record { sum = sum; product = product; begun = begun; room = n }; outer = outer } in
-    name_read name u a h ∙ name_ends u name a (spaces_end s z) ∙ spaces_done s _ _ _ _
+      let a : Around = record { level = record { sum = sum; product = product; begun = begun; room = n }; outer = outer } in
+      name_read name u a h ∙ name_ends u name a (spaces_end s z) ∙ spaces_done s _ _ _ _
   not_read (result_of {n} {u} {r} name word h s) z sum product begun outer l =
-    let a : Around = record { level = record { sum = sum; product = product; begun = begun; room = n }; outer = outer } in
-    name_read name (46 ∷ (spelling word ++ u)) a h ∙ result_read word name u a ∙ spaces_done s _ _ _ _
+      let a : Around = record { level = record { sum = sum; product = product; begun = begun; room = n }; outer = outer } in
+      name_read name (46 ∷ (spelling word ++ u)) a h ∙ result_read word name u a ∙ spaces_done s _ _ _ _
 
 -- a text of the grammar is read
 pub taken : (text : Text) (e : Expression) → IsDepends text e → read start text ≡ Some e

@@ -1,7 +1,19 @@
 //! What a task's `depends` says.
 
-use crate::steps::Step;
+ghost use Rattle.std.specs.Prelude.{◌≡◌, ◌≢◌, ℕ, ◌<◌, ◌≤◌, List as Seq, length, map, IfOk, IfErr, Some, slice_get};
+ghost use Rattle.depends_expr.specs.declared.results.TaskResult.{TaskResult as Results};
+ghost use Rattle.depends_expr.specs.declared.refused.DependsRefused.TheVariants as refused;
+ghost use Rattle.depends_expr.specs.Truth.{truth, names_of};
+ghost use Rattle.depends_expr.specs.Grammar.{IsDepends, IsBadAt};
+ghost use Rattle.depends_expr.specs.View.{peak};
+
+use crate::evaluation::evaluate;
+use crate::numbering::number;
+use crate::reading::read;
+use crate::steps::{Draft, Step};
+use crate::{DependsRefused, TaskResult};
 use base_types::{List, Memory, Names, TryCopy};
+use std::alloc::Global;
 use std::marker::Model;
 
 /// An expression over the results of tasks, and the names of these tasks.
@@ -32,4 +44,53 @@ impl TryCopy for Depends {
             steps: self.steps.copy()?,
         })
     }
+}
+
+impl Depends {
+    #[tactic(auto, using(crate::proofs::Numberings::numbers_whole))]
+    fn from_draft(alloc: Global, draft: Draft) -> Result<Depends, Memory>
+        requires { peak draft ≤ 131 }
+        ensures { IfOk result (λ depends. depends ≡ draft) }
+    {
+        let (table, steps) = number(alloc, draft.steps.as_slice())?;
+        let names = table.names(alloc)?;
+        Ok(Depends { names, steps })
+    }
+
+    /// How many tasks it names.
+    pub fn names(&self) -> usize
+        ensures { result ≡ length (names_of self.now) }
+    {
+        self.names.len()
+    }
+
+    /// The name at a position from 0. Each stands once, by the first place at which it is named.
+    pub fn name(&self, position: usize) -> &str
+        requires { position < length (names_of self.now) }
+        ensures { slice_get (names_of self.now) position ≡ Some result.now }
+    {
+        self.names.get(position).as_str()
+    }
+}
+
+/// Reads a `depends`. Chains of `&&` and of `||` are nested to the left.
+#[tactic(auto, using(crate::proofs::Held::meant, crate::proofs::Fronts::bad, crate::proofs::Peaks::low))]
+pub fn parse_depends(alloc: Global, text: &str) -> Result<Depends, DependsRefused>
+    // What is read is of the grammar, and says what the text says.
+    ensures ok { IfOk result (λ depends. IsDepends text.now depends) }
+    // A text is refused where it is not of the grammar, at its fault, or where there is no memory.
+    ensures bad { IfErr result (λ e. e ≢ refused.Memory → (place : ℕ) × (e ≡ refused.Bad place) × IsBadAt text.now place) }
+{
+    let draft = read(alloc, text.as_bytes())?;
+    Ok(Depends::from_draft(alloc, draft)?)
+}
+
+/// Whether the expression is true, where the results are those of the tasks that it names, in the order of the names.
+#[tactic(auto, using(crate::proofs::Evaluations::whole_value, crate::proofs::Evaluations::whole_fits))]
+pub fn eval(depends: &Depends, results: &[TaskResult]) -> bool
+    requires { length results.now ≡ length (names_of depends.now) }
+    // whatever gives each name its result
+    ensures { (of : Seq ℕ → Results) → map of (names_of depends.now) ≡ results.now → result ≡ truth of depends.now }
+{
+    evaluate(depends.steps.as_slice(), results)
 }

@@ -2,12 +2,16 @@
 #![tactic(auto)]
 
 pub mod depends;
+mod evaluation;
 mod names;
+mod numbering;
 mod reading;
 mod refused;
 pub mod results;
 mod steps;
+#[cfg(test)]
+mod tests;
 
-pub use depends::Depends;
+pub use depends::{Depends, eval, parse_depends};
 pub use refused::DependsRefused;
 pub use results::TaskResult;

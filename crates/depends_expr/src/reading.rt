@@ -179,7 +179,10 @@ fn close_level(behind: Behind) -> Result<Option<State>, Memory>
     ensures { IfOk result (λ next. next_of next ≡ close_level_state behind.last behind.sum (levels_of behind.outer.items)) }
 {
     let Behind {
-        last, sum, outer, ..
+        last,
+        sum,
+        outer,
+        ..
     } = behind;
     let mut outer = outer;
     let Some(level) = outer.pop() else {
@@ -392,7 +395,10 @@ fn whole(behind: Behind) -> Result<Option<Draft>, Memory>
     ensures { IfOk result (λ draft. draft ≡ whole_expression behind.last behind.sum (levels_of behind.outer.items)) }
 {
     let Behind {
-        last, sum, outer, ..
+        last,
+        sum,
+        outer,
+        ..
     } = behind;
     let mut outer = outer;
     match outer.pop() {

@@ -45,10 +45,10 @@ whole_items v good =
 
 pub many_items : (v : Vec Value Global) → are_whole (items_view v.items) ≡ true → 1000 < length v.items → items_of_data (view (Array v)) ≡ Err note.TooManyItems
 many_items v good many =
-    let long : 1000 < length (map view v.items) = omega (arith, length-map (map view v.items)) in
+    let long : 1000 < length (map view v.items) = omega (arith, length-map {B = Data} v.items view) in
     whole_items v good ∙ cond-false (nat_le (length (map view v.items)) most_items) (Ok (map view v.items)) (Err note.TooManyItems) (lt-leb (length (map view v.items)) 1000 long)
 
 pub good_items : (v : Vec Value Global) → are_whole (items_view v.items) ≡ true → length v.items ≤ 1000 → items_of_data (view (Array v)) ≡ Ok (map view v.items)
 good_items v good few =
-    let short : length (map view v.items) ≤ 1000 = omega (arith, length-map (map view v.items)) in
+    let short : length (map view v.items) ≤ 1000 = omega (arith, length-map {B = Data} v.items view) in
     whole_items v good ∙ cond-true (nat_le (length (map view v.items)) most_items) (Ok (map view v.items)) (Err note.TooManyItems) (le-leb (length (map view v.items)) 1000 short)

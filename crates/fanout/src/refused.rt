@@ -4,7 +4,7 @@ ghost use Rattle.std.specs.Prelude.{◌≡◌};
 ghost use Rattle.fanout.specs.declared.refused.FanRefused.TheVariants as refused;
 
 use base_types::{Memory, Text};
-use std::alloc::AllocError;
+use std::alloc::{AllocError, AllocFailed};
 use std::fmt;
 use thiserror::Error;
 
@@ -45,6 +45,14 @@ impl From<AllocError> for FanRefused {
     ghost from_gives = { λ _ e. e ≡ refused.Memory };
 
     fn from(_: AllocError) -> Self {
+        FanRefused::Memory
+    }
+}
+
+impl<T: Drop> From<AllocFailed<T>> for FanRefused {
+    ghost from_gives = { λ _ e. e ≡ refused.Memory };
+
+    fn from(_: AllocFailed<T>) -> Self {
         FanRefused::Memory
     }
 }

@@ -36,7 +36,9 @@ fn split_name(text: &str) -> (&str, &str)
 
 // The number of 32 bits that these are the digits of.
 fn number_of(digits: &str) -> Option<u32>
-    ensures { MatchOption result ((n : ℕ) → n < 2 ^ 32 → digits.now ≢ decimal n) (λ n. digits.now ≡ decimal n) }
+    ensures { MatchOption result
+        ((n : ℕ) → n < 2 ^ 32 → digits.now ≢ decimal n)
+        (λ n. digits.now ≡ decimal n) }
 {
     let bytes = digits.as_bytes();
     if bytes.is_empty() {
@@ -54,7 +56,9 @@ fn number_of(digits: &str) -> Option<u32>
 
 // The exit hook, or the step, whose name stands behind a dot.
 fn call_at(alloc: Global, after: &str) -> Result<Option<(Seg, &str)>, Memory>
-    ensures { IfOk result (λ found. MatchOption found (BeginsWithNone (46 ∷ after.now)) (λ x. BeginsWith x.0 (46 ∷ after.now) x.1.now)) }
+    ensures { IfOk result (λ found. MatchOption found
+        (BeginsWithNone (46 ∷ after.now))
+        (λ x. BeginsWith x.0 (46 ∷ after.now) x.1.now)) }
 {
     let (name, rest) = split_name(after);
     if name == "onExit" {
@@ -68,7 +72,9 @@ fn call_at(alloc: Global, after: &str) -> Result<Option<(Seg, &str)>, Memory>
 
 // The group whose number stands behind a bracket.
 fn group_at(after: &str) -> Option<(Seg, &str)>
-    ensures { MatchOption result (BeginsWithNone (91 ∷ after.now)) (λ x. BeginsWith x.0 (91 ∷ after.now) x.1.now) }
+    ensures { MatchOption result
+        (BeginsWithNone (91 ∷ after.now))
+        (λ x. BeginsWith x.0 (91 ∷ after.now) x.1.now) }
 {
     let Some((digits, rest)) = after.split_once(']') else {
         return None;
@@ -81,7 +87,9 @@ fn group_at(after: &str) -> Option<(Seg, &str)>
 
 // The item, or the attempt, that stands behind a parenthesis.
 fn item_at(alloc: Global, after: &str) -> Result<Option<(Seg, &str)>, Memory>
-    ensures { IfOk result (λ found. MatchOption found (BeginsWithNone (40 ∷ after.now)) (λ x. BeginsWith x.0 (40 ∷ after.now) x.1.now)) }
+    ensures { IfOk result (λ found. MatchOption found
+        (BeginsWithNone (40 ∷ after.now))
+        (λ x. BeginsWith x.0 (40 ∷ after.now) x.1.now)) }
 {
     let Some((inside, rest)) = after.split_once(')') else {
         return Ok(None);
@@ -99,14 +107,18 @@ fn item_at(alloc: Global, after: &str) -> Result<Option<(Seg, &str)>, Memory>
 }
 
 fn attempt_of<'a>(digits: &str, rest: &'a str) -> Option<(Seg, &'a str)>
-    ensures { MatchOption result ((n : ℕ) → n < 2 ^ 32 → digits.now ≢ decimal n) (λ x. (n : ℕ) × (n < 2 ^ 32) × (x.0 ≡ Seg.Attempt n) × (digits.now ≡ decimal n) × (x.1.now ≡ rest.now)) }
+    ensures { MatchOption result
+        ((n : ℕ) → n < 2 ^ 32 → digits.now ≢ decimal n)
+        (λ x. (n : ℕ) × (n < 2 ^ 32) × (x.0 ≡ Seg.Attempt n) × (digits.now ≡ decimal n) × (x.1.now ≡ rest.now)) }
 {
     number_of(digits).map(|number| (Seg::Attempt(number), rest))
 }
 
 // The first segment of a text of suffixes, and the text behind it.
 fn first_seg(alloc: Global, text: &str) -> Result<Option<(Seg, &str)>, Memory>
-    ensures { IfOk result (λ found. MatchOption found (BeginsWithNone text.now) (λ x. BeginsWith x.0 text.now x.1.now)) }
+    ensures { IfOk result (λ found. MatchOption found
+        (BeginsWithNone text.now)
+        (λ x. BeginsWith x.0 text.now x.1.now)) }
 {
     if let Some(after) = text.strip_prefix('.') {
         return call_at(alloc, after);

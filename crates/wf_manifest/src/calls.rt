@@ -2,7 +2,7 @@
 
 use crate::Json;
 use base_types::{List, Names, Text};
-use depends_expr::depends::Depends;
+use depends_expr::Depends;
 use tag_text::TagText;
 
 /// An argument (field reference, `Parameter` of `Arguments`).

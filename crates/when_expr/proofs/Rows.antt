@@ -1,7 +1,7 @@
 -- Conditions of texts, by the definitions alone.
-use Rattle.std.specs.Prelude.{◌≡◌, refl, codes, Some, None, true, Err}
+use Rattle.std.specs.Prelude.{◌≡◌, refl, codes, Some, None, true}
 use Rattle.when_expr.specs.Expression.{equal, below, quoted, word, test, negated, all_of}
-use Rattle.when_expr.specs.Reading.{start, read}
+use Rattle.when_expr.specs.Reading.{start, place}
 use Rattle.when_expr.specs.Grammar.{when_of}
 use Rattle.when_expr.specs.Truth.{truth}
 
@@ -17,11 +17,11 @@ mixed_truth = refl
 no_numbers : truth (test (word (codes "a")) below (word (codes "1"))) ≡ None
 no_numbers = refl
 
-unfinished : read start (codes "a =") ≡ Err 3
+unfinished : place start (codes "a =") ≡ 3
 unfinished = refl
 
-broken : read start (codes "a = b") ≡ Err 3
+broken : place start (codes "a = b") ≡ 3
 broken = refl
 
-single : read start (codes "a & b") ≡ Err 2
+single : place start (codes "a & b") ≡ 2
 single = refl

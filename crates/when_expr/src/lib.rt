@@ -1,4 +1,14 @@
 //! The text of a `when`: read against its grammar, and evaluated.
 #![tactic(auto)]
 
+mod evaluation;
+mod number;
+mod reading;
+mod refused;
+mod steps;
+#[cfg(test)]
+mod tests;
 pub mod when;
+
+pub use refused::{NotNumbers, WhenRefused};
+pub use when::{When, eval, parse_when};

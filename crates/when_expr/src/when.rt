@@ -1,61 +1,20 @@
 //! What a `when` says.
 
-use base_types::{List, Memory, Text, TryCopy};
+ghost use Rattle.std.specs.Prelude.{◌≡◌, ◌≢◌, ℕ, ◌≤◌, Ok, Some, None, Bool, IfOk, IfErr, IsErr};
+ghost use Rattle.when_expr.specs.declared.refused.WhenRefused.TheVariants as refused;
+ghost use Rattle.when_expr.specs.Grammar.{IsWhen, IsBadAt};
+ghost use Rattle.when_expr.specs.Postfix.{peak};
+ghost use Rattle.when_expr.specs.Truth.{truth};
+
+use crate::evaluation::evaluate;
+use crate::reading::read;
+use crate::steps::{Draft, Step};
+use crate::{NotNumbers, WhenRefused};
+use base_types::{List, Memory, TryCopy};
+use std::alloc::Global;
 use std::marker::Model;
 
-/// How a test compares its sides.
-#[derive(Clone, Copy, Debug, PartialEq, Eq)]
-pub(crate) enum Comparison {
-    Equal,
-    Unequal,
-    Below,
-    AtMost,
-    Above,
-    AtLeast,
-}
-
-/// A side of a test.
-#[derive(Drop)]
-pub(crate) enum Side {
-    Quoted(Text),
-    Word(Text),
-}
-
-impl TryCopy for Side {
-    fn copy(&self) -> Result<Side, Memory> {
-        match self {
-            Side::Quoted(text) => Ok(Side::Quoted(text.copy()?)),
-            Side::Word(text) => Ok(Side::Word(text.copy()?)),
-        }
-    }
-}
-
-/// A step of a condition in postfix order.
-#[derive(Drop)]
-pub(crate) enum Step {
-    Literal(bool),
-    Test(Side, Comparison, Side),
-    Not,
-    And,
-    Or,
-}
-
-impl TryCopy for Step {
-    fn copy(&self) -> Result<Step, Memory> {
-        match self {
-            Step::Literal(value) => Ok(Step::Literal(*value)),
-            Step::Test(left, comparison, right) => {
-                Ok(Step::Test(left.copy()?, *comparison, right.copy()?))
-            }
-            Step::Not => Ok(Step::Not),
-            Step::And => Ok(Step::And),
-            Step::Or => Ok(Step::Or),
-        }
-    }
-}
-
-/// A condition. It is kept flat, each connective behind its operands, so that no chain of `&&` or `||`, however long,
-/// makes a recursion.
+/// A condition.
 #[derive(Drop)]
 pub struct When {
     steps: List<Step>,
@@ -68,9 +27,11 @@ impl Model for When {
 
     ghost coded = { condition_code };
 
-    ghost use Rattle.when_expr.specs.View.{condition_of};
+    ghost use Rattle.when_expr.specs.Postfix.{condition_of, IsWhole};
 
     ghost view = { λ a. condition_of a.steps };
+
+    ghost invariant = { λ a. IsWhole a.steps };
 }
 
 impl TryCopy for When {
@@ -79,4 +40,44 @@ impl TryCopy for When {
             steps: self.steps.copy()?,
         })
     }
+}
+
+#[tactic(auto, using(crate::proofs::Postfixes::draft_whole))]
+fn from_draft(draft: Draft) -> When
+    requires { peak draft ≤ 131 }
+    ensures { result ≡ draft }
+{
+    When {
+        steps: List::from_vec(draft.steps),
+    }
+}
+
+/// Reads a `when`. Chains of `&&` and of `||` are nested to the left.
+#[tactic(auto, using(crate::proofs::Held::meant, crate::proofs::Fronts::bad, crate::proofs::Peaks::low))]
+pub fn parse_when(alloc: Global, text: &str) -> Result<When, WhenRefused>
+    // What is read is of the grammar, and says what the text says.
+    ensures ok { IfOk result (λ when. IsWhen text.now when) }
+    // A text is refused where it is not of the grammar, at its fault, or where there is no memory.
+    ensures bad { IfErr result (λ e. e ≢ refused.Memory → (place : ℕ) × (e ≡ refused.Bad place) × IsBadAt text.now place) }
+{
+    let draft = read(alloc, text.as_bytes())?;
+    Ok(from_draft(draft))
+}
+
+/// The truth of a condition: operands are evaluated from the left, stopping early.
+pub fn eval(when: &When) -> Result<bool, NotNumbers>
+    ensures ok { (value : Bool) → truth when.now ≡ Some value → result ≡ Ok value }
+    // An order test was reached with a side that is not a whole number.
+    ensures err { truth when.now ≡ None → IsErr result }
+{
+    match value_of(when) {
+        Some(value) => Ok(value),
+        None => Err(NotNumbers),
+    }
+}
+
+fn value_of(when: &When) -> Option<bool>
+    ensures { result ≡ truth when.now }
+{
+    evaluate(when.steps.as_slice())
 }

@@ -1,0 +1,5 @@
+use Rattle.scopes.proofs.Saying.{said_alike}
+use Rattle.scopes.proofs.law.same_values.Goals as goal
+
+pub returns : goal.returns
+returns c = said_alike

@@ -1,0 +1,58 @@
+//! From the whole input to the end of a run.
+
+ghost use Rattle.std.specs.Prelude.{◌≡◌, length, IfOk, MatchOption};
+ghost use Rattle.serde_json.specs.View.{view as data_of};
+ghost use Rattle.wf_program.specs.Runs.{Reads, ReadsNone};
+ghost use Rattle.wf_program.specs.Statuses.{status_text};
+ghost use Rattle.wf_program.specs.Ends.{Judgement, end_from};
+
+use crate::{Answered, Mode, Status};
+use base_types::{Bytes, Memory};
+use serde_json::Value;
+use std::alloc::Global;
+
+/// An end whose text was made for its run.
+#[derive(Drop)]
+pub(crate) struct Made {
+    pub(crate) status: Status,
+    pub(crate) text: Bytes,
+}
+
+/// The end of a run that has read all of its input. An end whose text takes no memory is its status alone.
+pub(crate) fn judge<M: Mode>(alloc: Global, mode: &M, input: &[u8]) -> Result<Made, Status>
+    ensures { Judgement (M.meant mode.now) (end_from input.now result) }
+{
+    let Some(value) = read_json(alloc, input)? else {
+        let text = not_json_text(alloc, input.len())?;
+        return Ok(Made {
+            status: Status::NotJson,
+            text,
+        });
+    };
+    match mode.answer(alloc, &value)? {
+        Answered::Done(text) => Ok(Made {
+            status: Status::Done,
+            text,
+        }),
+        Answered::NotBuilt => Err(Status::NotBuilt),
+    }
+}
+
+// The JSON value of which these bytes are the text, if there is one.
+fn read_json(alloc: Global, bytes: &[u8]) -> Result<Option<Value>, Memory>
+    ensures { IfOk result
+        (λ found. MatchOption found (ReadsNone bytes.now) (λ value. Reads bytes.now (data_of value))) }
+{
+    match Value::from_slice(alloc, bytes) {
+        Ok(value) => Ok(Some(value)),
+        Err(error) if error.is_memory() => Err(Memory),
+        Err(_) => Ok(None),
+    }
+}
+
+fn not_json_text(alloc: Global, count: usize) -> Result<Bytes, Memory>
+    ensures { IfOk result (λ text. text ≡ status_text Status.NotJson count) }
+{
+    let text = format!(in alloc; "argo: not JSON, {count} bytes\n")?;
+    Ok(Bytes::from_vec(text.into_bytes()))
+}

@@ -1,0 +1,13 @@
+//! The top call of the program, over any source of bytes and any sink: words and bytes in, text and a status out.
+#![tactic(auto)]
+
+mod judge;
+mod mode;
+mod status;
+#[cfg(test)]
+mod tests;
+mod top;
+
+pub use mode::{Answered, Mode};
+pub use status::Status;
+pub use top::{MOST, answer_words};

@@ -1,0 +1,28 @@
+//! The work on a JSON value, which the top call is written over.
+
+ghost use Rattle.std.specs.Prelude.{◌≡◌, IfOk};
+ghost use Rattle.serde_json.specs.Data.{Data};
+ghost use Rattle.serde_json.specs.View.{view as data_of};
+ghost use Rattle.wf_program.specs.declared.mode.Answered.{Answered};
+
+use base_types::{Bytes, Memory};
+use serde_json::Value;
+use std::alloc::Global;
+
+/// What is answered to a JSON value.
+#[derive(Drop)]
+pub enum Answered {
+    /// The text to write.
+    Done(Bytes),
+    /// The value has a form that is not built yet.
+    NotBuilt,
+}
+
+/// The work on a JSON value.
+pub trait Mode {
+    /// What is to be answered to a value of these data.
+    ghost meant: { Self → Data → Answered };
+
+    fn answer(&self, alloc: Global, value: &Value) -> Result<Answered, Memory>
+        ensures { IfOk result (λ answered. answered ≡ meant self.now (data_of value.now)) };
+}

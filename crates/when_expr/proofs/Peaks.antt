@@ -1,0 +1,25 @@
+-- A condition of the grammar needs few waiting operands, since its nesting is bounded.
+use Rattle.std.specs.Prelude.{ℕ, ◌≤◌, ◌+◌, ◌*◌}
+use Rattle.std.proofs.Common.{arith}
+use Rattle.when_expr.specs.Expression.{Condition}
+use Rattle.when_expr.specs.Symbols.{Text}
+use Rattle.when_expr.specs.Grammar.{Or, one_and, more_or, And, one_not, more_and, Not, not_sign, group, a_test, a_literal, IsWhen}
+use Rattle.when_expr.specs.Postfix.{peak}
+
+mutual
+  or_peak : {n : ℕ} {t r : Text} {e : Condition} → Or n t e r → peak e ≤ 2 * n + 3
+  or_peak (one_and h) = let p = and_peak h in omega (arith, p)
+  or_peak (more_or g s h) = let p = or_peak g in let q = and_peak h in omega (arith, p, q)
+
+  and_peak : {n : ℕ} {t r : Text} {e : Condition} → And n t e r → peak e ≤ 2 * n + 2
+  and_peak (one_not h) = let p = not_peak h in omega (arith, p)
+  and_peak (more_and g s h) = let p = and_peak g in let q = not_peak h in omega (arith, p, q)
+
+  not_peak : {n : ℕ} {t r : Text} {e : Condition} → Not n t e r → peak e ≤ 2 * n + 1
+  not_peak (not_sign s h) = let p = not_peak h in omega (arith, p)
+  not_peak (group s h q) = let p = or_peak h in omega (arith, p)
+  not_peak (a_test o g s h) = omega arith
+  not_peak (a_literal b s) = omega arith
+
+pub low : (text : Text) (e : Condition) → IsWhen text e → peak e ≤ 131
+low text e (t, s, h) = let p = or_peak h in omega (arith, p)

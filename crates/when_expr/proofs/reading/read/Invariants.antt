@@ -1,0 +1,11 @@
+use Rattle.std.proofs.Common.{◌≡◌, ◌+◌, drop}
+use Rattle.when_expr.specs.Reading.{start, read, place}
+use Rattle.when_expr.specs.Drafts.{state_of}
+use Rattle.when_expr.proofs.reading.read.Given as goal
+
+-- what comes of the rest of the text comes of the whole
+abbrev pub invariant-loop-place : goal.invariant-loop-place
+invariant-loop-place l = record {
+  rest : read (state_of l.state) (drop l.place l.text) ≡ read start l.text;
+  fault : l.place + place (state_of l.state) (drop l.place l.text) ≡ place start l.text;
+}
