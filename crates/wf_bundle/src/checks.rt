@@ -39,7 +39,8 @@ fn add_groups<'a>(calls: &mut Vec<&'a Call>, groups: &'a [Group]) -> Result<(), 
 }
 
 fn add_calls<'a>(calls: &mut Vec<&'a Call>, group: &'a [Call]) -> Result<(), Memory>
-    ensures { OnOk result (map (λ call. call.now) calls.new.items ≡ map (λ call. call.now) calls.old.items ++ group.entry.now) }
+    ensures { OnOk result (map (λ call. call.now) calls.new.items
+        ≡ map (λ call. call.now) calls.old.items ++ group.entry.now) }
 {
     for i in 0..group.len() {
         calls.push(&group[i])?;

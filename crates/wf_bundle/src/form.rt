@@ -93,7 +93,8 @@ fn not_of_form(alloc: Global) -> KindRefused
 
 /// The items of a list, whose other members are not read.
 fn items_of<'a>(alloc: Global, list: &'a Value) -> Result<&'a [Value], KindRefused>
-    ensures { Shows (λ items. items_view items.now) result (required forms.items (codes "items") [] (view list.entry.now)) }
+    ensures { Shows (λ items. items_view items.now) result
+        (required forms.items (codes "items") [] (view list.entry.now)) }
 {
     let path = FieldPath::root(alloc).field("items")?;
     match list.get("items") {
