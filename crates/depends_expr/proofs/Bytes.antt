@@ -1,5 +1,5 @@
 -- What the kind of a byte says of it.
-use Rattle.std.specs.Prelude.{◌≡◌, ℕ, Bool, true, false, ◌==◌, IsTrue}
+use Rattle.std.specs.Prelude.{◌≡◌, ℕ, ◌==◌, IsTrue}
 use Rattle.std.proofs.Common.{ap, inl, inr}
 use Rattle.std.proofs.lemmas.Bool.{or_cases, eqb-true, cond-true, cond_both}
 use Rattle.depends_expr.specs.Grammar.{is_space, is_name_byte}

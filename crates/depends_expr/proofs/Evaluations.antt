@@ -1,6 +1,6 @@
 -- The value of an expression's steps is its truth, and finds room.
-use Rattle.std.specs.Prelude.{◌≡◌, ℕ, zero, suc, ◌<◌, ◌≤◌, ◌+◌, ◌-◌, List, [], ◌∷◌, ◌++◌, length, map, max, Bool, true, false, not, ◌&&◌, ◌||◌, nat_lt, IsTrue, refl, slice_get, slice_index_or, Option, Some, None}
-use Rattle.std.proofs.Common.{ap, sym, subst, ◌∙◌, arith, append_assoc, append-nil}
+use Rattle.std.specs.Prelude.{◌≡◌, ℕ, zero, suc, ◌<◌, ◌≤◌, ◌+◌, ◌-◌, List, [], ◌∷◌, ◌++◌, length, map, Bool, true, ◌&&◌, nat_lt, IsTrue, refl, slice_get, slice_index_or}
+use Rattle.std.proofs.Common.{ap, sym, ◌∙◌, arith, append_assoc, append-nil}
 use Rattle.std.specs.List.{list_all}
 use Rattle.std.proofs.lemmas.Bool.{and_parts, and_from, lt-ltb, ltb-true}
 use Rattle.depends_expr.specs.declared.results.TaskResult.{TaskResult}
@@ -8,7 +8,7 @@ use Rattle.depends_expr.specs.declared.steps.Step.{Step}
 use Rattle.depends_expr.specs.declared.steps.Step.TheVariants.{Bare, Has, Not, And, Or}
 use Rattle.depends_expr.specs.Expression.{Expression, bare, has, negation, both, either}
 use Rattle.depends_expr.specs.Truth.{holds, bare_holds, truth}
-use Rattle.depends_expr.specs.Postfix.{word_of, postfix, build, built, expression_of}
+use Rattle.depends_expr.specs.Postfix.{word_of, postfix, build, built}
 use Rattle.depends_expr.specs.View.{found, with_name, named_expression, is_position_below, peak, IsWhole}
 use Rattle.depends_expr.specs.Values.{result_at, value_of, values, top_value, has_room, values_after, fits}
 use Rattle.depends_expr.proofs.Postfixes.{built_postfix}

@@ -1,13 +1,13 @@
 -- Where the longest front ends that some text of the grammar begins with.
-use Rattle.std.specs.Prelude.{◌≡◌, ℕ, zero, suc, ◌<◌, ◌≤◌, ◌+◌, List, [], ◌∷◌, ◌++◌, length, take, Bool, true, false, ◌&&◌, ◌||◌, ◌==◌, IsTrue, Option, Some, None, refl, codes}
-use Rattle.std.proofs.Common.{ap, sym, subst, ◌∙◌, arith, rules, append_assoc, append-nil, length-append, inl, inr}
+use Rattle.std.specs.Prelude.{◌≡◌, ℕ, zero, suc, ◌≤◌, List, [], ◌∷◌, ◌++◌, length, take, ◌==◌, IsTrue, Option, Some, None, refl}
+use Rattle.std.proofs.Common.{ap, sym, subst, ◌∙◌, arith, append_assoc, inl, inr}
 use Rattle.std.specs.List.{list_any}
-use Rattle.std.proofs.lemmas.Bool.{false≢true, and_parts, or_cases, cond_both, eqb-true}
-use Rattle.depends_expr.specs.Expression.{Word, Expression, bare, has, negation, both, either}
-use Rattle.depends_expr.specs.Grammar.{Text, is_name, spelling, Spaces, no_space, Not, result_of, IsDepends, IsStart, StartEndsAt, IsBadAt}
-use Rattle.depends_expr.specs.Reading.{State, start, wants, in_name, in_result, done, half_and, half_or, Around, Level, operand, negate, joined, times, plus, step, read, then_read, place, then_place, words, behind, is_found, begins_word}
+use Rattle.std.proofs.lemmas.Bool.{false≢true, or_cases, cond_both, eqb-true}
+use Rattle.depends_expr.specs.Expression.{Word, Expression, bare, has}
+use Rattle.depends_expr.specs.Grammar.{Text, spelling, no_space, result_of, IsDepends, IsStart, StartEndsAt, IsBadAt}
+use Rattle.depends_expr.specs.Reading.{State, start, wants, in_name, in_result, done, half_and, half_or, Around, Level, operand, joined, plus, step, read, then_read, place, then_place, words, behind, is_found}
 use Rattle.depends_expr.proofs.Taken.{taken}
-use Rattle.depends_expr.proofs.Held.{Holds, At, step_holds, read_holds, start_holds, operand_holds, meant, none_some, some_same}
+use Rattle.depends_expr.proofs.Held.{Holds, At, step_holds, read_holds, start_holds, operand_holds, none_some, some_same}
 
 -- ---- each state can be completed
 

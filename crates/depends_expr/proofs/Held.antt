@@ -1,12 +1,12 @@
 -- What is read is of the grammar: what a state says of the text before it.
-use Rattle.std.specs.Prelude.{◌≡◌, ℕ, zero, suc, ◌<◌, ◌≤◌, ◌+◌, ◌-◌, List, [], ◌∷◌, ◌++◌, length, Bool, true, false, ◌&&◌, ◌==◌, nat_lt, nat_le, bytes_eq, IsTrue, Option, Some, None, refl, codes}
-use Rattle.std.proofs.Common.{ap, sym, subst, ◌∙◌, arith, rules, append_assoc, append-nil, length-append}
+use Rattle.std.specs.Prelude.{◌≡◌, ℕ, zero, suc, ◌<◌, ◌≤◌, ◌-◌, List, [], ◌∷◌, ◌++◌, length, Bool, true, false, ◌&&◌, ◌==◌, nat_lt, nat_le, bytes_eq, IsTrue, Option, Some, None, refl}
+use Rattle.std.proofs.Common.{ap, sym, subst, ◌∙◌, arith, append_assoc, length-append}
 use Rattle.std.specs.List.{list_all}
-use Rattle.std.proofs.lemmas.Bool.{false≢true, and_from, and_parts, ltb-true, leb-true, lt-ltb, le-leb, cond-true, cond_both, eqb-true}
+use Rattle.std.proofs.lemmas.Bool.{and_from, and_parts, ltb-true, lt-ltb, le-leb, cond_both, eqb-true}
 use Rattle.std.proofs.lemmas.Slice.Eq.{bytes_eq-Decides}
-use Rattle.depends_expr.specs.Expression.{Word, succeeded, failed, errored, skipped, omitted, daemoned, any_succeeded, all_failed, Expression, bare, has, negation, both, either}
+use Rattle.depends_expr.specs.Expression.{Word, Expression, bare, has, negation}
 use Rattle.depends_expr.specs.Grammar.{Text, is_space, is_name_byte, is_name, spelling, Spaces, no_space, space, Or, one_and, more_or, And, one_not, more_and, Not, not_sign, group, alone, result_of, IsDepends}
-use Rattle.depends_expr.specs.Reading.{Kind, kind, letter, blank, bang, opening, closing, ampersand, bar, dot, other, State, start, wants, in_name, in_result, done, half_and, half_or, Around, Level, fresh, on_wants, on_done, on_name, on_result, on_part, on_operand, longer_name, add_not, open_level, close_level, operand, negate, joined, times, plus, whole, final, step, read, then_read, words, spelled, begins_word}
+use Rattle.depends_expr.specs.Reading.{Kind, kind, letter, blank, bang, opening, closing, ampersand, bar, dot, other, State, start, wants, in_name, in_result, done, half_and, half_or, Around, Level, on_wants, on_done, on_name, on_result, on_part, longer_name, add_not, open_level, close_level, operand, negate, times, plus, whole, final, step, read, then_read, words, spelled, begins_word}
 use Rattle.depends_expr.proofs.Bytes.{Says, kind_says}
 
 -- ---- pieces of the text before a place. T is the whole text, and r the rest from the place on

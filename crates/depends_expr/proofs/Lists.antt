@@ -1,5 +1,5 @@
 -- Fronts of lists.
-use Rattle.std.specs.Prelude.{◌≡◌, ℕ, zero, suc, ◌+◌, List, [], ◌∷◌, ◌++◌, take, slice_get, Option, Some, None, refl}
+use Rattle.std.specs.Prelude.{◌≡◌, ℕ, zero, suc, ◌+◌, List, [], ◌∷◌, ◌++◌, take, slice_get, Some}
 use Rattle.std.proofs.Common.{ap, sym, ◌∙◌, add-one}
 use Rattle.depends_expr.proofs.Held.{none_some, some_same}
 

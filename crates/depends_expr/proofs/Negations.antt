@@ -1,5 +1,5 @@
 -- An operand and its `!`, one at a time.
-use Rattle.std.specs.Prelude.{◌≡◌, ℕ, zero, suc, ◌<◌, ◌≤◌, ◌+◌, ◌-◌}
+use Rattle.std.specs.Prelude.{◌≡◌, ℕ, suc, ◌<◌, ◌+◌, ◌-◌}
 use Rattle.std.proofs.Common.{ap, sym, ◌∙◌, arith}
 use Rattle.depends_expr.specs.Expression.{Expression, negation}
 use Rattle.depends_expr.specs.Reading.{negate}

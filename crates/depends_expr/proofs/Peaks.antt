@@ -1,5 +1,5 @@
 -- An expression of the grammar needs few waiting operands, since its nesting is bounded.
-use Rattle.std.specs.Prelude.{◌≡◌, ℕ, zero, suc, ◌<◌, ◌≤◌, ◌+◌, ◌*◌, List, [], ◌∷◌, max}
+use Rattle.std.specs.Prelude.{ℕ, ◌≤◌, ◌+◌, ◌*◌}
 use Rattle.std.proofs.Common.{arith}
 use Rattle.depends_expr.specs.Expression.{Expression}
 use Rattle.depends_expr.specs.Grammar.{Text, Or, one_and, more_or, And, one_not, more_and, Not, not_sign, group, alone, result_of, IsDepends}

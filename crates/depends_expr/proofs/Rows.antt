@@ -1,6 +1,6 @@
 -- Expressions of texts, by the definitions alone.
-use Rattle.std.specs.Prelude.{◌≡◌, refl, codes, Some, None}
-use Rattle.depends_expr.specs.Expression.{Word, succeeded, failed, errored, skipped, omitted, daemoned, any_succeeded, all_failed, Expression, bare, has, negation, both, either}
+use Rattle.std.specs.Prelude.{◌≡◌, refl, codes, Some}
+use Rattle.depends_expr.specs.Expression.{failed, bare, has, negation, both, either}
 use Rattle.depends_expr.specs.Reading.{start, read, place}
 
 plain : read start (codes " A&&!B.Failed || (C )") ≡ Some (either (both (bare (codes "A")) (negation (has (codes "B") failed))) (bare (codes "C")))

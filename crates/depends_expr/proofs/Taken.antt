@@ -1,11 +1,11 @@
 -- What is of the grammar is read.
-use Rattle.std.specs.Prelude.{◌≡◌, ℕ, zero, suc, ◌<◌, ◌≤◌, ◌+◌, ◌-◌, List, [], ◌∷◌, ◌++◌, length, Bool, true, false, ◌&&◌, nat_lt, nat_le, IsTrue, Option, Some, None, refl, codes}
-use Rattle.std.proofs.Common.{ap, sym, ◌∙◌, arith, rules, append_assoc, append-nil, length-append}
+use Rattle.std.specs.Prelude.{◌≡◌, ℕ, suc, ◌<◌, ◌≤◌, ◌+◌, ◌-◌, List, [], ◌∷◌, ◌++◌, length, Bool, true, false, ◌&&◌, nat_lt, nat_le, IsTrue, Option, Some, None, refl}
+use Rattle.std.proofs.Common.{ap, sym, ◌∙◌, arith, append_assoc, append-nil, length-append}
 use Rattle.std.specs.List.{list_all}
-use Rattle.std.proofs.lemmas.Bool.{false≢true, and_parts, ltb-true, leb-true, lt-ltb, cond-true}
-use Rattle.depends_expr.specs.Expression.{Word, succeeded, failed, errored, skipped, omitted, daemoned, any_succeeded, all_failed, Expression, bare, has, negation, both, either}
-use Rattle.depends_expr.specs.Grammar.{Text, is_space, is_name_byte, is_name, spelling, Spaces, no_space, space, Or, one_and, more_or, And, one_not, more_and, Not, not_sign, group, alone, result_of, IsDepends}
-use Rattle.depends_expr.specs.Reading.{Kind, kind, letter, blank, bang, opening, closing, ampersand, bar, dot, other, State, start, wants, in_name, in_result, done, half_and, half_or, Around, Level, fresh, on_wants, on_done, on_name, on_operand, longer_name, operand, negate, joined, times, plus, step, read, then_read}
+use Rattle.std.proofs.lemmas.Bool.{false≢true, and_parts, leb-true, lt-ltb, cond-true}
+use Rattle.depends_expr.specs.Expression.{Word, succeeded, failed, errored, skipped, omitted, daemoned, any_succeeded, all_failed, Expression, bare, has, negation, both}
+use Rattle.depends_expr.specs.Grammar.{Text, is_name_byte, is_name, spelling, Spaces, no_space, space, Or, one_and, more_or, And, one_not, more_and, Not, not_sign, group, alone, result_of, IsDepends}
+use Rattle.depends_expr.specs.Reading.{Kind, kind, letter, blank, bang, opening, closing, ampersand, bar, dot, other, start, wants, in_name, done, Around, Level, fresh, on_wants, on_done, on_name, on_operand, operand, negate, times, plus, read, then_read}
 use Rattle.depends_expr.proofs.Bytes.{space_kind, name_kind}
 
 pub spaces_wanting : {t u : Text} → Spaces t u → (a : Around) → read (wants a) t ≡ read (wants a) u

@@ -1,5 +1,5 @@
 -- A part that is longer than a text is not its front.
-use Rattle.std.specs.Prelude.{◌≡◌, ℕ, ◌<◌, List, [], ◌∷◌, length, Bool, false, ◌==◌, refl, Option, None}
+use Rattle.std.specs.Prelude.{◌≡◌, ◌<◌, [], ◌∷◌, length, false, ◌==◌, refl, None}
 use Rattle.std.proofs.Common.{arith}
 use Rattle.std.proofs.lemmas.Bool.{cond_both}
 use Rattle.depends_expr.specs.Grammar.{Text}

@@ -1,5 +1,5 @@
 -- What contracts see of the code's reading.
-use Rattle.std.specs.Prelude.{ℕ, List, [], ◌∷◌, map, reverse, Option, None, Some, string_bytes, option_map}
+use Rattle.std.specs.Prelude.{ℕ, List, map, reverse, Option, string_bytes, option_map}
 use Rattle.depends_expr.specs.declared.reading.Kind.{Kind as CodeKind}
 use Rattle.depends_expr.specs.declared.reading.Kind.TheVariants as k
 use Rattle.depends_expr.specs.declared.reading.Level.{Level as CodeLevel}

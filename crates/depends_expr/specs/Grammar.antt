@@ -1,5 +1,5 @@
 -- The grammar of a `depends` (Argo's enhanced depends logic, with the nesting that this project allows).
-use Rattle.std.specs.Prelude.{◌≡◌, ℕ, zero, suc, List, [], ◌∷◌, ◌++◌, length, take, ◌≤◌, Bool, true, false, ◌||◌, ◌&&◌, ◌==◌, nat_lt, nat_le, IsTrue, codes}
+use Rattle.std.specs.Prelude.{ℕ, suc, List, [], ◌∷◌, ◌++◌, length, take, ◌≤◌, Bool, ◌||◌, ◌&&◌, ◌==◌, nat_lt, nat_le, IsTrue, codes}
 use Rattle.std.specs.List.{list_all}
 use Rattle.depends_expr.specs.Expression.{Word, succeeded, failed, errored, skipped, omitted, daemoned, any_succeeded, all_failed, Expression, bare, has, negation, both, either}
 
@@ -44,19 +44,23 @@ mutual
   -- or = and { "||" and }
   pub data Or : ℕ → Text → Expression → Text → Type 0 where
     one_and : {n : ℕ} {t r : Text} {e : Expression} → And n t e r → Or n t e r
-    more_or : {n : ℕ} {t u v r : Text} {d e : Expression} → Or n t d (124 ∷ 124 ∷ u) → Spaces u v → And n v e r → Or n t (either d e) r
+    more_or : {n : ℕ} {t u v r : Text} {d e : Expression} →
+        Or n t d (124 ∷ 124 ∷ u) → Spaces u v → And n v e r → Or n t (either d e) r
 
   -- and = not { "&&" not }
   pub data And : ℕ → Text → Expression → Text → Type 0 where
     one_not : {n : ℕ} {t r : Text} {e : Expression} → Not n t e r → And n t e r
-    more_and : {n : ℕ} {t u v r : Text} {d e : Expression} → And n t d (38 ∷ 38 ∷ u) → Spaces u v → Not n v e r → And n t (both d e) r
+    more_and : {n : ℕ} {t u v r : Text} {d e : Expression} →
+        And n t d (38 ∷ 38 ∷ u) → Spaces u v → Not n v e r → And n t (both d e) r
 
   -- not = "!" not | "(" or ")" | name [ "." result ]
   pub data Not : ℕ → Text → Expression → Text → Type 0 where
     not_sign : {n : ℕ} {u v r : Text} {e : Expression} → Spaces u v → Not n v e r → Not (suc n) (33 ∷ u) (negation e) r
-    group : {n : ℕ} {u v w r : Text} {e : Expression} → Spaces u v → Or n v e (41 ∷ w) → Spaces w r → Not (suc n) (40 ∷ u) e r
+    group : {n : ℕ} {u v w r : Text} {e : Expression} →
+        Spaces u v → Or n v e (41 ∷ w) → Spaces w r → Not (suc n) (40 ∷ u) e r
     alone : {n : ℕ} {u r : Text} (name : Text) → IsTrue (is_name name) → Spaces u r → Not n (name ++ u) (bare name) r
-    result_of : {n : ℕ} {u r : Text} (name : Text) (word : Word) → IsTrue (is_name name) → Spaces u r → Not n (name ++ (46 ∷ (spelling word ++ u))) (has name word) r
+    result_of : {n : ℕ} {u r : Text} (name : Text) (word : Word) →
+        IsTrue (is_name name) → Spaces u r → Not n (name ++ (46 ∷ (spelling word ++ u))) (has name word) r
 
 -- the text is of the grammar, and says e
 abbrev pub IsDepends : Text → Expression → Type 0

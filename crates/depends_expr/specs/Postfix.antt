@@ -1,11 +1,10 @@
 -- Expressions in postfix order: each connective stands behind its operands.
-use Rattle.std.specs.Prelude.{◌≡◌, ℕ, zero, suc, ◌≤◌, List, [], ◌∷◌, ◌++◌, length, map, max, Bool, true, false, ◌&&◌, nat_lt, IsTrue, Option, None, Some, slice_get}
+use Rattle.std.specs.Prelude.{ℕ, List, [], ◌∷◌, ◌++◌}
 use Rattle.depends_expr.specs.declared.steps.Step.{Step}
 use Rattle.depends_expr.specs.declared.steps.Step.TheVariants.{Bare, Has, Not, And, Or}
 use Rattle.depends_expr.specs.declared.steps.Outcome.{Outcome}
 use Rattle.depends_expr.specs.declared.steps.Outcome.TheVariants as o
 use Rattle.depends_expr.specs.Expression.{Word, succeeded, failed, errored, skipped, omitted, daemoned, any_succeeded, all_failed, Expression, bare, has, negation, both, either}
-use Rattle.depends_expr.specs.Truth.{names_of}
 
 abbrev pub word_of : Outcome → Word
 word_of o.Succeeded = succeeded

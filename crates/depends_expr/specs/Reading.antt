@@ -1,6 +1,6 @@
 -- The reading of a `depends`, byte by byte: what is open after a text, or that no text of the grammar begins so.
-use Rattle.std.specs.Prelude.{ℕ, zero, suc, List, [], ◌∷◌, ◌++◌, ◌-◌, length, Bool, true, false, ◌||◌, ◌==◌, nat_lt, Option, Some, None, Result, Ok, Err, if◌then◌else◌, bytes_eq, nat_eq}
-use Rattle.std.specs.List.{list_any, starts_with}
+use Rattle.std.specs.Prelude.{ℕ, zero, suc, List, [], ◌∷◌, ◌++◌, ◌-◌, length, Bool, true, false, ◌==◌, nat_lt, Option, Some, None, if◌then◌else◌, bytes_eq}
+use Rattle.std.specs.List.{list_any}
 use Rattle.depends_expr.specs.Expression.{Word, succeeded, failed, errored, skipped, omitted, daemoned, any_succeeded, all_failed, Expression, bare, has, negation, both, either}
 use Rattle.depends_expr.specs.Grammar.{Text, is_space, is_name_byte, spelling}
 
@@ -19,7 +19,14 @@ pub data Kind : Type 0 where
   other : Kind
 
 abbrev pub sign_kind : ℕ → Kind
-sign_kind b = if b == 33 then bang else (if b == 40 then opening else (if b == 41 then closing else (if b == 38 then ampersand else (if b == 124 then bar else (if b == 46 then dot else other)))))
+sign_kind b =
+    if b == 33 then bang
+    else (if b == 40 then opening
+    else (if b == 41 then closing
+    else (if b == 38 then ampersand
+    else (if b == 124 then bar
+    else (if b == 46 then dot
+    else other)))))
 
 abbrev pub kind : ℕ → Kind
 kind b = if is_name_byte b then letter else (if is_space b then blank else sign_kind b)
@@ -100,7 +107,10 @@ operand e level outer = done (joined e level) level.sum outer level.begun
 
 abbrev pub add_not : ℕ → Level → List Level → Option State
 add_not zero level outer = None
-add_not (suc room) level outer = Some (wants (record { level = record { sum = level.sum; product = level.product; begun = level.begun; room = room }; outer = outer }))
+add_not (suc room) level outer = Some (wants (record {
+  level = record { sum = level.sum; product = level.product; begun = level.begun; room = room };
+  outer = outer;
+}))
 
 abbrev pub open_level : ℕ → Level → List Level → Option State
 open_level zero level outer = None
@@ -163,8 +173,20 @@ step (wants a) b = on_wants (kind b) b a
 step (in_name name a) b = on_name (kind b) b name a
 step (in_result name part a) b = on_result (spelled (part ++ b ∷ []) words) name (part ++ b ∷ []) a
 step (done e sum outer room) b = on_done (kind b) e sum outer room
-step (half_and e sum outer room) b = if b == 38 then Some (wants (record { level = record { sum = sum; product = Some e; begun = room; room = room }; outer = outer })) else None
-step (half_or e sum outer room) b = if b == 124 then Some (wants (record { level = record { sum = Some (plus sum e); product = None; begun = room; room = room }; outer = outer })) else None
+step (half_and e sum outer room) b =
+    if b == 38
+    then Some (wants (record {
+      level = record { sum = sum; product = Some e; begun = room; room = room };
+      outer = outer;
+    }))
+    else None
+step (half_or e sum outer room) b =
+    if b == 124
+    then Some (wants (record {
+      level = record { sum = Some (plus sum e); product = None; begun = room; room = room };
+      outer = outer;
+    }))
+    else None
 
 -- ---- a whole text
 

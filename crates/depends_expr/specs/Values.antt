@@ -1,5 +1,5 @@
 -- The evaluation of steps in postfix order.
-use Rattle.std.specs.Prelude.{◌≡◌, ℕ, ◌+◌, ◌-◌, List, [], ◌∷◌, length, Bool, true, false, not, ◌&&◌, ◌||◌, nat_lt, Option, None, Some, slice_get}
+use Rattle.std.specs.Prelude.{ℕ, ◌+◌, ◌-◌, List, [], ◌∷◌, Bool, true, false, not, ◌&&◌, ◌||◌, nat_lt, Option, None, Some, slice_get}
 use Rattle.depends_expr.specs.declared.results.TaskResult.{TaskResult}
 use Rattle.depends_expr.specs.declared.steps.Step.{Step}
 use Rattle.depends_expr.specs.declared.steps.Step.TheVariants.{Bare, Has, Not, And, Or}
@@ -7,7 +7,15 @@ use Rattle.depends_expr.specs.Truth.{holds, bare_holds}
 use Rattle.depends_expr.specs.Postfix.{word_of}
 
 abbrev pub nothing : TaskResult
-nothing = record { succeeded = false; failed = false; errored = false; skipped = false; omitted = false; any_succeeded = false; all_failed = false }
+nothing = record {
+  succeeded = false;
+  failed = false;
+  errored = false;
+  skipped = false;
+  omitted = false;
+  any_succeeded = false;
+  all_failed = false;
+}
 
 abbrev pub found_result : Option TaskResult → TaskResult
 found_result None = nothing

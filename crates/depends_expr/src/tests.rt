@@ -26,26 +26,28 @@ fn evaluates(rt: HostRuntime) -> Result<(), Fail> {
     };
     let table = [
         ("A", true),
-        ("B", false),
+        ("A.Failed", false),
         (" A && ! B ", true),
         ("A.Failed || B.Failed", true),
         ("A && B || B.AllFailed", true),
         ("!A || !(B.Failed)", false),
         ("A.Daemoned", false),
-        (
-            "!B.Omitted && !A.Errored && !B.AnySucceeded && !B.Skipped",
-            true,
-        ),
-        ("A || (B && B)", true),
+        ("A.Failed && !B.Omitted && !B.Errored", false),
+        ("A || (B && B.AnySucceeded)", true),
     ];
     for (text, expected) in table {
         let depends = parse_depends(alloc, text)?.copy()?;
-        let results = [succeeded, failed];
-        assert!(rt; depends.names() <= 2, "{text}");
-        if depends.names() == 2 {
-            assert_eq!(rt; eval(&depends, &results), expected, "{text}");
-        }
+        let value = match depends.names() {
+            1 => eval(&depends, &[succeeded]),
+            2 => eval(&depends, &[succeeded, failed]),
+            _ => !expected,
+        };
+        assert_eq!(rt; value, expected, "{text}");
     }
+    let depends = parse_depends(alloc, "B && (A || B)")?;
+    assert_eq!(rt; depends.names(), 2);
+    assert_eq!(rt; depends.name(0), "B");
+    assert_eq!(rt; depends.name(1), "A");
     Ok(())
 }
 

@@ -1,10 +1,10 @@
 -- One turn of the reader of a list's members.
-use Rattle.std.proofs.Common.{◌≡◌, ℕ, suc, ◌+◌, ◌<◌, ◌≤◌, List, [], ◌∷◌, ◌++◌, length, get_or, drop, Result, Ok, Err, refl, sym, ap, subst, ◌∙◌, append_assoc, add-one, drop-cons, arith}
+use Rattle.std.proofs.Common.{◌≡◌, ℕ, suc, ◌+◌, ◌<◌, List, [], ◌∷◌, ◌++◌, length, get_or, drop, Ok, Err, refl, sym, ap, subst, ◌∙◌, append_assoc, add-one, drop-cons}
 use Rattle.std.proofs.lemmas.List.{append-nil}
 use Rattle.serde_json.specs.View.{view, items_view}
 use Rattle.serde_json.specs.declared.value.Value.{Value}
 use Rattle.json_fields.specs.Paths.{Path, member_of}
-use Rattle.field_kinds.specs.Reading.{Read, ◌>>=◌, Kind, refuse_by, Refusal}
+use Rattle.field_kinds.specs.Reading.{Read, ◌>>=◌, Kind}
 use Rattle.field_kinds.specs.declared.refused.KindRefused.{KindRefused}
 use Rattle.field_kinds.specs.declared.refused.KindRefused.TheVariants.{Memory, Rule}
 use Rattle.field_kinds.specs.Refusing.{Refuses}

@@ -1,9 +1,9 @@
 -- Rows that compute: what small values read as.
 use Rattle.std.specs.Prelude.{◌≡◌, ℕ, List, [], ◌∷◌, Ok, codes, refl}
 use Rattle.std.specs.Fmt.{digits}
-use Rattle.serde_json.specs.Data.{Data, null, number, unsigned, string, array, object, no_items, item, no_members, member}
+use Rattle.serde_json.specs.Data.{Data, null, string, array, object, no_items, item, no_members, member}
 use Rattle.field_kinds.specs.Reading.{Kind, refuse_by}
-use Rattle.field_kinds.specs.Kinds.{text, any_text, object_of, list_of}
+use Rattle.field_kinds.specs.Kinds.{text, object_of}
 use Rattle.field_kinds.specs.Fields.{required, default_list}
 
 -- the names of a list of objects

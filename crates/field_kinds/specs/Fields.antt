@@ -6,7 +6,7 @@ use Rattle.serde_json.specs.Find.{get}
 use Rattle.json_fields.specs.Paths.{Path, field_of}
 use Rattle.json_fields.specs.Fields.{says_nothing}
 use Rattle.field_kinds.specs.Reading.{Read, ◌>>=◌, Kind, refuse_by, or_missing, or_bad}
-use Rattle.field_kinds.specs.Kinds.{text, of, list_of}
+use Rattle.field_kinds.specs.Kinds.{text, list_of}
 
 abbrev pub some : {A : Type 0} → Read A → Read (Option A)
 some (Ok x) = Ok (Some x)

@@ -1,6 +1,6 @@
 -- Maps: objects whose keys are the document's. They go in the order of their keys, as `serde_json` keeps them.
 use Rattle.std.specs.Prelude.{ℕ, List, [], ◌∷◌, Option, Some, None, Ok}
-use Rattle.serde_json.specs.Data.{Data, object, Members, no_members, member}
+use Rattle.serde_json.specs.Data.{object, Members, no_members, member}
 use Rattle.json_fields.specs.Paths.{Path, field_of}
 use Rattle.field_kinds.specs.Reading.{Read, ◌>>=◌, Kind, refuse_by}
 use Rattle.field_kinds.specs.Fields.{present}

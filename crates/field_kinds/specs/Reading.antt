@@ -1,5 +1,5 @@
 -- Reading with a first refusal. The rules and their numbers are this project's own; so is it that the first counts.
-use Rattle.std.specs.Prelude.{ℕ, List, Option, Some, None, Result, Ok, Err}
+use Rattle.std.specs.Prelude.{ℕ, Option, Some, None, Result, Ok, Err}
 use Rattle.serde_json.specs.Data.{Data}
 use Rattle.json_fields.specs.Paths.{Path}
 

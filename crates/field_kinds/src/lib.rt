@@ -10,8 +10,6 @@ mod readable;
 mod refused;
 mod refusing;
 mod rules;
-#[cfg(test)]
-mod tests;
 mod texts;
 mod values;
 

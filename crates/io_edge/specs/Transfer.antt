@@ -5,7 +5,9 @@ use Rattle.std.specs.declared.option.Option.{Option}
 
 -- These bytes left the source, no more than one beyond `most`. They are what was given, and are too long exactly where
 -- they are that one more.
-pub record Took {E : Type 0} (old new : Option (List ℕ)) (most : ℕ) (too_long : E) (result : Result (List ℕ) E) (bytes : List ℕ) : Type 0 where
+pub record Took
+    {E : Type 0} (old new : Option (List ℕ)) (most : ℕ) (too_long : E) (result : Result (List ℕ) E) (bytes : List ℕ)
+    : Type 0 where
   pub consumed : Consumes old new bytes
   pub given : IfOk result (λ given. given ≡ bytes)
   pub bound : length bytes ≤ most + 1

@@ -151,7 +151,8 @@ begin_at J p = J ++ Begun p ∷ []
 -- a journal and what `close` makes of it: the first task that may begin begins, until there is none
 pub data Closes (m : Manifest) : Facts → Facts → Type 0 where
   closed : {J : Facts} → beginnings m J ≡ [] → Closes m J J
-  begins : {J K : Facts} {p : Path} {ps : List Path} → beginnings m J ≡ p ∷ ps → Closes m (begin_at J p) K → Closes m J K
+  begins : {J K : Facts} {p : Path} {ps : List Path} →
+      beginnings m J ≡ p ∷ ps → Closes m (begin_at J p) K → Closes m J K
 
 -- ---- the workflow's phase (own)
 

@@ -1,5 +1,5 @@
 -- What the kind of a byte says of it.
-use Rattle.std.specs.Prelude.{◌≡◌, ℕ, Bool, true, false, ◌==◌, IsTrue, refl}
+use Rattle.std.specs.Prelude.{◌≡◌, ℕ, ◌==◌, IsTrue, refl}
 use Rattle.std.proofs.Common.{ap, inl, inr}
 use Rattle.std.proofs.lemmas.Bool.{false≢true, or_cases, eqb-true, cond-true, cond_both}
 use Rattle.when_expr.specs.Symbols.{Kind, letter, blank, quote, bang, opening, closing, ampersand, bar, equals, less, greater, kind, sign_kind, is_space, is_quote, is_word_byte, is_letter}

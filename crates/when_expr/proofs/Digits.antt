@@ -1,6 +1,6 @@
 -- Digits that are too many, and bytes that are none.
-use Rattle.std.specs.Prelude.{◌≡◌, ℕ, zero, suc, ◌<◌, ◌≤◌, ◌+◌, ◌-◌, ◌*◌, List, [], ◌∷◌, length, drop, Bool, true, false, nat_le, slice_index_or, refl, Option, Some, None}
-use Rattle.std.proofs.Common.{ap, sym, ◌∙◌, arith, drop-cons, add-one}
+use Rattle.std.specs.Prelude.{◌≡◌, ℕ, zero, suc, ◌<◌, ◌+◌, ◌-◌, ◌*◌, List, [], ◌∷◌, length, drop, true, false, nat_le, slice_index_or, refl, Some, None}
+use Rattle.std.proofs.Common.{ap, sym, ◌∙◌, arith, add-one}
 use Rattle.std.specs.Char.{is_ascii_digit}
 use Rattle.std.proofs.lemmas.Bool.{cond-true, cond-false, cond_both, lt-leb}
 use Rattle.when_expr.specs.Truth.{digits_from, up_to_limit}

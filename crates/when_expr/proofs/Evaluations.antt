@@ -1,5 +1,5 @@
 -- The value of a condition's steps is its truth, and finds room.
-use Rattle.std.specs.Prelude.{◌≡◌, ℕ, zero, suc, ◌<◌, ◌≤◌, ◌+◌, ◌-◌, List, [], ◌∷◌, ◌++◌, length, map, max, Bool, true, false, ◌&&◌, nat_lt, IsTrue, refl, Option, Some, None}
+use Rattle.std.specs.Prelude.{◌≡◌, ℕ, ◌<◌, ◌≤◌, ◌+◌, ◌-◌, List, [], ◌∷◌, ◌++◌, map, Bool, true, ◌&&◌, nat_lt, IsTrue, refl}
 use Rattle.std.proofs.Common.{ap, sym, ◌∙◌, arith, append_assoc, append-nil}
 use Rattle.std.proofs.lemmas.Bool.{and_from, lt-ltb}
 use Rattle.when_expr.specs.declared.steps.Step.{Step}
@@ -7,7 +7,7 @@ use Rattle.when_expr.specs.declared.steps.Step.TheVariants.{Literal, Test, Not, 
 use Rattle.when_expr.specs.Expression.{Condition, literal, test, negated, all_of, any_of}
 use Rattle.when_expr.specs.Truth.{truth}
 use Rattle.when_expr.specs.Postfix.{postfix, build, built, condition_of, peak, IsWhole}
-use Rattle.when_expr.specs.Values.{value_of, values, top_value, has_room, values_after, fits}
+use Rattle.when_expr.specs.Values.{value_of, values, top_value, fits}
 use Rattle.when_expr.proofs.Postfixes.{built_postfix}
 
 step_value : (s : Step) (es : List Condition) → value_of s (map truth es) ≡ map truth (build s es)

@@ -1,12 +1,12 @@
 -- Where the longest front ends that some text of the grammar begins with.
-use Rattle.std.specs.Prelude.{◌≡◌, ℕ, zero, suc, ◌<◌, ◌≤◌, ◌+◌, List, [], ◌∷◌, ◌++◌, length, take, Bool, true, false, ◌==◌, IsTrue, Option, Some, None, refl, codes}
-use Rattle.std.proofs.Common.{ap, sym, subst, ◌∙◌, arith, rules, append_assoc, append-nil, length-append}
-use Rattle.when_expr.specs.Expression.{Order, equal, Term, quoted, word, Condition, literal, test, negated, all_of, any_of}
+use Rattle.std.specs.Prelude.{◌≡◌, ℕ, zero, suc, ◌≤◌, List, [], ◌∷◌, ◌++◌, length, take, Option, Some, None, refl}
+use Rattle.std.proofs.Common.{ap, sym, subst, ◌∙◌, arith}
+use Rattle.when_expr.specs.Expression.{equal, Term, quoted, word, Condition, test}
 use Rattle.when_expr.specs.Symbols.{Text}
 use Rattle.when_expr.specs.Grammar.{IsWhen, IsStart, StartEndsAt, IsBadAt}
-use Rattle.when_expr.specs.Reading.{Mark, long_order, Side, first, second, State, start, wants, in_quote, in_word, has_term, in_order, wants_term, done, half_and, half_or, Around, Level, operand, negate, joined, times, plus, step, read, then_read, place, then_place}
+use Rattle.when_expr.specs.Reading.{long_order, Side, first, second, State, start, wants, in_quote, in_word, has_term, in_order, wants_term, done, half_and, half_or, Around, Level, operand, joined, plus, step, read, then_read, place, then_place}
 use Rattle.when_expr.proofs.Taken.{taken, quote_closes}
-use Rattle.when_expr.proofs.Held.{Holds, At, step_holds, read_holds, start_holds, meant, none_some, some_same}
+use Rattle.when_expr.proofs.Held.{Holds, step_holds, read_holds, start_holds, none_some, some_same}
 
 -- ---- each state can be completed
 

@@ -1,13 +1,13 @@
 -- What is read is of the grammar: what a state says of the text before it.
-use Rattle.std.specs.Prelude.{◌≡◌, ℕ, zero, suc, ◌<◌, ◌≤◌, ◌+◌, ◌-◌, List, [], ◌∷◌, ◌++◌, length, Bool, true, false, not, ◌&&◌, ◌==◌, nat_lt, bytes_eq, IsTrue, Option, Some, None, refl, codes}
-use Rattle.std.proofs.Common.{ap, sym, subst, ◌∙◌, arith, rules, append_assoc, append-nil, length-append}
+use Rattle.std.specs.Prelude.{◌≡◌, ℕ, zero, suc, ◌<◌, ◌≤◌, ◌-◌, List, [], ◌∷◌, ◌++◌, length, Bool, true, false, not, ◌==◌, nat_lt, bytes_eq, IsTrue, Option, Some, None, refl, codes}
+use Rattle.std.proofs.Common.{ap, sym, subst, arith, append_assoc, length-append}
 use Rattle.std.specs.List.{list_all}
-use Rattle.std.proofs.lemmas.Bool.{false≢true, and_from, and_parts, ltb-true, lt-ltb, cond-true, cond_both, eqb-true, not_from_false}
+use Rattle.std.proofs.lemmas.Bool.{and_from, and_parts, lt-ltb, cond_both, eqb-true, not_from_false}
 use Rattle.std.proofs.lemmas.Slice.Eq.{bytes_eq-Decides}
-use Rattle.when_expr.specs.Expression.{Order, equal, unequal, below, at_most, above, at_least, Term, quoted, word, Condition, literal, test, negated, all_of, any_of}
+use Rattle.when_expr.specs.Expression.{Order, below, above, Term, quoted, word, Condition, literal, test, negated}
 use Rattle.when_expr.specs.Symbols.{Text, Kind, letter, blank, quote, bang, opening, closing, ampersand, bar, equals, less, greater, kind, is_space, is_quote, is_word_byte, is_letter}
 use Rattle.when_expr.specs.Grammar.{is_word, lacks, sign, spelling, Spaces, no_space, space, TermIs, a_word, in_quotes, Or, one_and, more_or, And, one_not, more_and, Not, not_sign, group, a_test, a_literal, IsWhen}
-use Rattle.when_expr.specs.Reading.{Mark, one_equals, one_bang, one_less, one_greater, Side, first, second, State, start, wants, in_quote, in_word, has_term, in_order, wants_term, done, half_and, half_or, Around, Level, fresh, on_wants, on_done, on_term, on_second, on_word, on_ended, on_order, on_short, on_operand, on_literal, literal_word, literal_of, long_order, side_done, add_not, open_level, close_level, operand, negate, joined, times, plus, whole, whole_operand, whole_literal, final, step, read, then_read}
+use Rattle.when_expr.specs.Reading.{Mark, one_equals, one_bang, one_less, one_greater, Side, first, second, State, start, wants, in_quote, in_word, has_term, in_order, wants_term, done, half_and, half_or, Around, Level, on_wants, on_done, on_term, on_second, on_word, on_ended, on_order, on_short, on_operand, on_literal, literal_word, literal_of, long_order, side_done, add_not, open_level, close_level, operand, negate, times, plus, whole, whole_operand, whole_literal, final, step, read, then_read}
 use Rattle.when_expr.proofs.Bytes.{Says, kind_says}
 
 -- ---- pieces of the text before a place. T is the whole text, and r the rest from the place on
@@ -227,8 +227,8 @@ literal_word_is w e p =
     cond_both (bytes_eq w (codes "true")) (Some (literal true)) _ (λ x. x ≡ Some e → (b : Bool) × (w ≡ spelling b) × (e ≡ literal b))
     (λ h p. (true, (bytes_eq-Decides w (codes "true")).0 h, sym (some_same p)))
     (λ _. cond_both (bytes_eq w (codes "false")) (Some (literal false)) None (λ x. x ≡ Some e → (b : Bool) × (w ≡ spelling b) × (e ≡ literal b))
-        (λ h p. (false, (bytes_eq-Decides w (codes "false")).0 h, sym (some_same p)))
-        (λ _ p. absurd (none_some p)))
+    (λ h p. (false, (bytes_eq-Decides w (codes "false")).0 h, sym (some_same p)))
+    (λ _ p. absurd (none_some p)))
     p
 
 -- a term that is a literal is an operand
@@ -317,9 +317,9 @@ in_quote_holds : (T r : Text) (q : ℕ) (t : Text) (side : Side) (a : Around) (b
 in_quote_holds T r q t side a b s p h =
     cond_both (b == q) (Some (side_done side (quoted t) a)) (Some (in_quote q (t ++ b ∷ []) side a)) (λ x. x ≡ Some s → Holds T s r)
     (λ same p. subst (λ x. Holds T x r) (some_same p)
-        (side_holds T side a (quoted t) _ r (subst (λ x. BeforeTerm T side a (q ∷ (t ++ (x ∷ r)))) (eqb-true b q same) h.0) (in_quotes q t h.1 h.2 no_space)))
+    (side_holds T side a (quoted t) _ r (subst (λ x. BeforeTerm T side a (q ∷ (t ++ (x ∷ r)))) (eqb-true b q same) h.0) (in_quotes q t h.1 h.2 no_space)))
     (λ other p. subst (λ x. Holds T x r) (some_same p)
-        (subst (λ x. BeforeTerm T side a (q ∷ x)) (sym (append_assoc t (b ∷ []) r)) h.0, h.1, all_lack q t b h.2 other))
+    (subst (λ x. BeforeTerm T side a (q ∷ x)) (sym (append_assoc t (b ∷ []) r)) h.0, h.1, all_lack q t b h.2 other))
     p
 
 on_wants_holds : (T r : Text) (k : Kind) (b : ℕ) (a : Around) (s : State) → kind b ≡ k → Says b k → on_wants k b a ≡ Some s → At T a.level a.outer (b ∷ r) → Holds T s r
@@ -339,7 +339,7 @@ half_and_holds : (T r : Text) (b : ℕ) (e : Condition) (sum : Option Condition)
 half_and_holds T r b e sum outer room s p a =
     cond_both (b == 38) (Some (wants (record { level = record { sum = sum; product = Some e; begun = room; room = room }; outer = outer }))) None (λ x. x ≡ Some s → Holds T s r)
     (λ same p. subst (λ x. Holds T x r) (some_same p)
-        (record { begun = room; from = a.from; around = a.around; within = inside a.before (some_product (subst (λ x. And room a.last e (38 ∷ (x ∷ r))) (eqb-true b 38 same) a.chain) no_space) no_not }))
+    (record { begun = room; from = a.from; around = a.around; within = inside a.before (some_product (subst (λ x. And room a.last e (38 ∷ (x ∷ r))) (eqb-true b 38 same) a.chain) no_space) no_not }))
     (λ _ p. absurd (none_some p))
     p
 
@@ -347,7 +347,7 @@ half_or_holds : (T r : Text) (b : ℕ) (e : Condition) (sum : Option Condition) 
 half_or_holds T r b e sum outer room s p a =
     cond_both (b == 124) (Some (wants (record { level = record { sum = Some (plus sum e); product = None; begun = room; room = room }; outer = outer }))) None (λ x. x ≡ Some s → Holds T s r)
     (λ same p. subst (λ x. Holds T x r) (some_same p)
-        (record { begun = room; from = a.from; around = a.around; within = inside (some_sum (subst (λ x. Or room a.from (plus sum e) (124 ∷ (x ∷ r))) (eqb-true b 124 same) (sum_close a.before e _ a.chain)) no_space) no_product no_not }))
+    (record { begun = room; from = a.from; around = a.around; within = inside (some_sum (subst (λ x. Or room a.from (plus sum e) (124 ∷ (x ∷ r))) (eqb-true b 124 same) (sum_close a.before e _ a.chain)) no_space) no_product no_not }))
     (λ _ p. absurd (none_some p))
     p
 

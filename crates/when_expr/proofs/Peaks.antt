@@ -1,5 +1,5 @@
 -- A condition of the grammar needs few waiting operands, since its nesting is bounded.
-use Rattle.std.specs.Prelude.{◌≡◌, ℕ, zero, suc, ◌<◌, ◌≤◌, ◌+◌, ◌*◌, List, [], ◌∷◌, max}
+use Rattle.std.specs.Prelude.{ℕ, ◌≤◌, ◌+◌, ◌*◌}
 use Rattle.std.proofs.Common.{arith}
 use Rattle.when_expr.specs.Expression.{Condition}
 use Rattle.when_expr.specs.Symbols.{Text}

@@ -1,5 +1,5 @@
 -- Conditions of texts, by the definitions alone.
-use Rattle.std.specs.Prelude.{◌≡◌, refl, codes, Some, None, true, Err}
+use Rattle.std.specs.Prelude.{◌≡◌, refl, codes, Some, None, true}
 use Rattle.when_expr.specs.Expression.{equal, below, quoted, word, test, negated, all_of}
 use Rattle.when_expr.specs.Reading.{start, place}
 use Rattle.when_expr.specs.Grammar.{when_of}

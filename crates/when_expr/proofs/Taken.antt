@@ -1,12 +1,12 @@
 -- What is of the grammar is read.
-use Rattle.std.specs.Prelude.{◌≡◌, ℕ, zero, suc, ◌<◌, ◌≤◌, ◌+◌, ◌-◌, List, [], ◌∷◌, ◌++◌, length, Bool, true, false, not, ◌&&◌, ◌==◌, nat_lt, IsTrue, Option, Some, None, refl, codes}
-use Rattle.std.proofs.Common.{ap, sym, ◌∙◌, arith, rules, append_assoc, append-nil}
+use Rattle.std.specs.Prelude.{◌≡◌, ℕ, suc, ◌≤◌, ◌-◌, List, [], ◌∷◌, ◌++◌, length, Bool, true, false, not, ◌==◌, nat_lt, IsTrue, Option, Some, None, refl, codes}
+use Rattle.std.proofs.Common.{ap, sym, ◌∙◌, arith, append_assoc, append-nil}
 use Rattle.std.specs.List.{list_all}
 use Rattle.std.proofs.lemmas.Bool.{false≢true, and_parts, cond-true, cond-false, not-true, eq-eqb}
-use Rattle.when_expr.specs.Expression.{Order, equal, unequal, below, at_most, above, at_least, Term, quoted, word, Condition, literal, test, negated, all_of, any_of}
-use Rattle.when_expr.specs.Symbols.{Text, Kind, letter, blank, quote, bang, opening, closing, ampersand, bar, equals, less, greater, kind, is_space, is_quote, is_word_byte}
+use Rattle.when_expr.specs.Expression.{Order, equal, unequal, below, at_most, above, at_least, Term, quoted, word, Condition, literal, test, negated, all_of}
+use Rattle.when_expr.specs.Symbols.{Text, Kind, letter, blank, quote, bang, opening, closing, ampersand, bar, equals, less, greater, kind, is_word_byte}
 use Rattle.when_expr.specs.Grammar.{is_word, lacks, sign, spelling, Spaces, no_space, space, TermIs, a_word, in_quotes, Or, one_and, more_or, And, one_not, more_and, Not, not_sign, group, a_test, a_literal, IsWhen}
-use Rattle.when_expr.specs.Reading.{Mark, one_less, one_greater, Side, first, second, State, start, wants, in_quote, in_word, has_term, in_order, wants_term, done, half_and, half_or, Around, Level, fresh, on_wants, on_done, on_term, on_second, on_word, on_order, on_operand, side_done, operand, negate, joined, times, plus, step, read, then_read}
+use Rattle.when_expr.specs.Reading.{one_less, one_greater, Side, first, second, start, wants, in_quote, in_word, has_term, wants_term, done, Around, Level, fresh, on_wants, on_done, on_term, on_second, on_word, on_order, on_operand, side_done, operand, negate, times, plus, read, then_read}
 use Rattle.when_expr.proofs.Bytes.{space_kind, quote_kind, word_kind}
 
 pub spaces_wanting : {t u : Text} → Spaces t u → (a : Around) → read (wants a) t ≡ read (wants a) u
@@ -271,11 +271,11 @@ mutual
       let inside = or_read h refl (level ∷ outer) in
       spaces_wanting s _ ∙ inside.3 ∙ ap (λ x. read (operand x level outer) w) inside.2 ∙ spaces_done q _ _ _ _
   not_read (a_test {n} {t} {u} {v} {r} {l} {m} o g s k) z sum product begun outer h =
-    let a : Around = record { level = record { sum = sum; product = product; begun = begun; room = n }; outer = outer } in
-    first_term g (order_ends_word o u) a ∙ order_read o u l a (spaces_front no_equals refl s (term_front k)) ∙ spaces_second s l o a ∙ second_term k (end_ends_word r z) l o a
+      let a : Around = record { level = record { sum = sum; product = product; begun = begun; room = n }; outer = outer } in
+      first_term g (order_ends_word o u) a ∙ order_read o u l a (spaces_front no_equals refl s (term_front k)) ∙ spaces_second s l o a ∙ second_term k (end_ends_word r z) l o a
   not_read (a_literal {n} {u} {r} b s) z sum product begun outer h =
-    let a : Around = record { level = record { sum = sum; product = product; begun = begun; room = n }; outer = outer } in
-    literal_read b u r a s z
+      let a : Around = record { level = record { sum = sum; product = product; begun = begun; room = n }; outer = outer } in
+      literal_read b u r a s z
 
 -- a text of the grammar is read
 pub taken : (text : Text) (e : Condition) → IsWhen text e → read start text ≡ Some e

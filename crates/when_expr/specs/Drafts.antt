@@ -1,5 +1,5 @@
 -- What contracts see of the code's reading.
-use Rattle.std.specs.Prelude.{ℕ, List, [], ◌∷◌, map, reverse, Option, None, Some, option_map}
+use Rattle.std.specs.Prelude.{ℕ, List, map, reverse, Option, option_map}
 use Rattle.when_expr.specs.declared.reading.Kind.{Kind as CodeKind}
 use Rattle.when_expr.specs.declared.reading.Kind.TheVariants as k
 use Rattle.when_expr.specs.declared.reading.Mark.{Mark as CodeMark}

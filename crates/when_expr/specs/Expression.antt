@@ -84,7 +84,8 @@ condition_tree (all_of c d) = gcons (gnum 3) (gcons (condition_tree c) (conditio
 condition_tree (any_of c d) = gcons (gnum 4) (gcons (condition_tree c) (condition_tree d))
 
 abbrev pub tree_condition : Gv → Condition
-tree_condition (gcons (gnum (suc zero)) (gcons l (gcons (gnum o) r))) = test (tree_term l) (number_order o) (tree_term r)
+tree_condition (gcons (gnum (suc zero)) (gcons l (gcons (gnum o) r))) =
+    test (tree_term l) (number_order o) (tree_term r)
 tree_condition (gcons (gnum (suc (suc zero))) c) = negated (tree_condition c)
 tree_condition (gcons (gnum (suc (suc (suc zero)))) (gcons c d)) = all_of (tree_condition c) (tree_condition d)
 tree_condition (gcons (gnum (suc (suc (suc (suc zero))))) (gcons c d)) = any_of (tree_condition c) (tree_condition d)

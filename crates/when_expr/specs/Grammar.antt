@@ -1,6 +1,6 @@
 -- The grammar of a `when` (the language of these conditions is this project's own).
-use Rattle.std.specs.Prelude.{◌≡◌, ℕ, zero, suc, ◌≤◌, List, [], ◌∷◌, ◌++◌, length, take, Bool, true, false, not, ◌||◌, ◌&&◌, ◌==◌, nat_lt, IsTrue, codes, Option}
-use Rattle.std.specs.List.{list_all, list_any}
+use Rattle.std.specs.Prelude.{ℕ, suc, ◌≤◌, [], ◌∷◌, ◌++◌, length, take, Bool, true, false, not, ◌&&◌, ◌==◌, nat_lt, IsTrue, codes, Option}
+use Rattle.std.specs.List.{list_all}
 use Rattle.when_expr.specs.Expression.{Order, equal, unequal, below, at_most, above, at_least, Term, quoted, word, Condition, literal, test, negated, all_of, any_of}
 use Rattle.when_expr.specs.Symbols.{Text, is_space, is_quote, is_word_byte}
 use Rattle.when_expr.specs.Reading.{start, read}
@@ -34,7 +34,8 @@ spelling false = codes "false"
 -- t is a term, then r: a word, or text between two quotes of one kind that is without this quote
 pub data TermIs : Text → Term → Text → Type 0 where
   a_word : {u r : Text} (w : Text) → IsTrue (is_word w) → Spaces u r → TermIs (w ++ u) (word w) r
-  in_quotes : {u r : Text} (q : ℕ) (w : Text) → IsTrue (is_quote q) → IsTrue (lacks q w) → Spaces u r → TermIs (q ∷ (w ++ (q ∷ u))) (quoted w) r
+  in_quotes : {u r : Text} (q : ℕ) (w : Text) →
+      IsTrue (is_quote q) → IsTrue (lacks q w) → Spaces u r → TermIs (q ∷ (w ++ (q ∷ u))) (quoted w) r
 
 -- ---- the grammar. "Or n t c r": t is an `or` that says c, then r, and at most n `!` and `(` are open in it at once.
 -- Chains are nested to the left. (Nested to the right they would have the same truth, since operands are evaluated from
@@ -43,18 +44,22 @@ mutual
   -- or = and { "||" and }
   pub data Or : ℕ → Text → Condition → Text → Type 0 where
     one_and : {n : ℕ} {t r : Text} {e : Condition} → And n t e r → Or n t e r
-    more_or : {n : ℕ} {t u v r : Text} {d e : Condition} → Or n t d (124 ∷ 124 ∷ u) → Spaces u v → And n v e r → Or n t (any_of d e) r
+    more_or : {n : ℕ} {t u v r : Text} {d e : Condition} →
+        Or n t d (124 ∷ 124 ∷ u) → Spaces u v → And n v e r → Or n t (any_of d e) r
 
   -- and = not { "&&" not }
   pub data And : ℕ → Text → Condition → Text → Type 0 where
     one_not : {n : ℕ} {t r : Text} {e : Condition} → Not n t e r → And n t e r
-    more_and : {n : ℕ} {t u v r : Text} {d e : Condition} → And n t d (38 ∷ 38 ∷ u) → Spaces u v → Not n v e r → And n t (all_of d e) r
+    more_and : {n : ℕ} {t u v r : Text} {d e : Condition} →
+        And n t d (38 ∷ 38 ∷ u) → Spaces u v → Not n v e r → And n t (all_of d e) r
 
   -- not = "!" not | "(" or ")" | term op term | "true" | "false"
   pub data Not : ℕ → Text → Condition → Text → Type 0 where
     not_sign : {n : ℕ} {u v r : Text} {e : Condition} → Spaces u v → Not n v e r → Not (suc n) (33 ∷ u) (negated e) r
-    group : {n : ℕ} {u v w r : Text} {e : Condition} → Spaces u v → Or n v e (41 ∷ w) → Spaces w r → Not (suc n) (40 ∷ u) e r
-    a_test : {n : ℕ} {t u v r : Text} {l m : Term} (o : Order) → TermIs t l (sign o ++ u) → Spaces u v → TermIs v m r → Not n t (test l o m) r
+    group : {n : ℕ} {u v w r : Text} {e : Condition} →
+        Spaces u v → Or n v e (41 ∷ w) → Spaces w r → Not (suc n) (40 ∷ u) e r
+    a_test : {n : ℕ} {t u v r : Text} {l m : Term} (o : Order) →
+        TermIs t l (sign o ++ u) → Spaces u v → TermIs v m r → Not n t (test l o m) r
     a_literal : {n : ℕ} {u r : Text} (b : Bool) → Spaces u r → Not n (spelling b ++ u) (literal b) r
 
 -- the text is of the grammar, and says c

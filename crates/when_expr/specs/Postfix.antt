@@ -1,5 +1,5 @@
 -- Conditions in postfix order: each connective stands behind its operands.
-use Rattle.std.specs.Prelude.{◌≡◌, ℕ, suc, ◌≤◌, List, [], ◌∷◌, ◌++◌, max, Bool, true, false}
+use Rattle.std.specs.Prelude.{◌≡◌, ℕ, suc, ◌≤◌, List, [], ◌∷◌, ◌++◌, max, false}
 use Rattle.when_expr.specs.declared.steps.Step.{Step}
 use Rattle.when_expr.specs.declared.steps.Step.TheVariants.{Literal, Test, Not, And, Or}
 use Rattle.when_expr.specs.declared.steps.Comparison.{Comparison}

@@ -1,5 +1,5 @@
 -- The reading of a `when`, byte by byte: what is open after a text, or that no text of the grammar begins so.
-use Rattle.std.specs.Prelude.{ℕ, zero, suc, List, [], ◌∷◌, ◌++◌, ◌-◌, Bool, true, false, ◌==◌, Option, Some, None, if◌then◌else◌, codes, bytes_eq}
+use Rattle.std.specs.Prelude.{ℕ, zero, suc, List, [], ◌∷◌, ◌++◌, ◌-◌, true, false, ◌==◌, Option, Some, None, if◌then◌else◌, codes, bytes_eq}
 use Rattle.when_expr.specs.Expression.{Order, equal, unequal, below, at_most, above, at_least, Term, quoted, word, Condition, literal, test, negated, all_of, any_of}
 use Rattle.when_expr.specs.Symbols.{Text, Kind, letter, blank, quote, bang, opening, closing, ampersand, bar, equals, less, greater, kind}
 
@@ -31,15 +31,15 @@ pub data Side : Type 0 where
   second : Term → Order → Side
 
 pub data State : Type 0 where
-  wants : Around → State                                                   -- an operand is to come
-  in_quote : ℕ → Text → Side → Around → State                              -- inside quotes
-  in_word : Text → Side → Around → State                                   -- inside a word
-  has_term : Term → Around → State                                         -- behind a first term
-  in_order : Mark → Term → Around → State                                  -- behind the first byte of an order
-  wants_term : Term → Order → Around → State                               -- the second term is to come
-  done : Condition → Option Condition → List Level → ℕ → State             -- behind an operand: what the last `&&`s join
-  half_and : Condition → Option Condition → List Level → ℕ → State         -- behind one `&`
-  half_or : Condition → Option Condition → List Level → ℕ → State          -- behind one `|`
+  wants : Around → State  -- an operand is to come
+  in_quote : ℕ → Text → Side → Around → State  -- inside quotes
+  in_word : Text → Side → Around → State  -- inside a word
+  has_term : Term → Around → State  -- behind a first term
+  in_order : Mark → Term → Around → State  -- behind the first byte of an order
+  wants_term : Term → Order → Around → State  -- the second term is to come
+  done : Condition → Option Condition → List Level → ℕ → State  -- behind an operand: what the last `&&`s join
+  half_and : Condition → Option Condition → List Level → ℕ → State  -- behind one `&`
+  half_or : Condition → Option Condition → List Level → ℕ → State  -- behind one `|`
 
 abbrev pub fresh : ℕ → Level
 fresh room = record { sum = None; product = None; begun = room; room = room }
@@ -72,7 +72,10 @@ operand e level outer = done (joined e level) level.sum outer level.begun
 
 abbrev pub add_not : ℕ → Level → List Level → Option State
 add_not zero level outer = None
-add_not (suc room) level outer = Some (wants (record { level = record { sum = level.sum; product = level.product; begun = level.begun; room = room }; outer = outer }))
+add_not (suc room) level outer = Some (wants (record {
+  level = record { sum = level.sum; product = level.product; begun = level.begun; room = room };
+  outer = outer;
+}))
 
 abbrev pub open_level : ℕ → Level → List Level → Option State
 open_level zero level outer = None
@@ -112,7 +115,9 @@ abbrev pub on_operand : Kind → Condition → Around → Option State
 on_operand k e a = on_done k (joined e a.level) a.level.sum a.outer a.level.begun
 
 abbrev pub literal_word : Text → Option Condition
-literal_word w = if bytes_eq w (codes "true") then Some (literal true) else (if bytes_eq w (codes "false") then Some (literal false) else None)
+literal_word w =
+    if bytes_eq w (codes "true") then Some (literal true)
+    else (if bytes_eq w (codes "false") then Some (literal false) else None)
 
 -- the literal that a term may be, where no order follows
 abbrev pub literal_of : Term → Option Condition
@@ -187,8 +192,20 @@ step (has_term t a) b = on_term (kind b) t a
 step (in_order m t a) b = on_order (kind b) b m t a
 step (wants_term t o a) b = on_second (kind b) b t o a
 step (done e sum outer room) b = on_done (kind b) e sum outer room
-step (half_and e sum outer room) b = if b == 38 then Some (wants (record { level = record { sum = sum; product = Some e; begun = room; room = room }; outer = outer })) else None
-step (half_or e sum outer room) b = if b == 124 then Some (wants (record { level = record { sum = Some (plus sum e); product = None; begun = room; room = room }; outer = outer })) else None
+step (half_and e sum outer room) b =
+    if b == 38
+    then Some (wants (record {
+      level = record { sum = sum; product = Some e; begun = room; room = room };
+      outer = outer;
+    }))
+    else None
+step (half_or e sum outer room) b =
+    if b == 124
+    then Some (wants (record {
+      level = record { sum = Some (plus sum e); product = None; begun = room; room = room };
+      outer = outer;
+    }))
+    else None
 
 -- ---- a whole text
 

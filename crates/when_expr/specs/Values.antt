@@ -1,6 +1,6 @@
 -- The evaluation of steps in postfix order. A right side is evaluated even where it is not reached: its value is then not
 -- looked at.
-use Rattle.std.specs.Prelude.{ℕ, ◌+◌, ◌-◌, List, [], ◌∷◌, Bool, true, false, ◌&&◌, nat_lt, Option, None, Some}
+use Rattle.std.specs.Prelude.{ℕ, ◌+◌, ◌-◌, List, [], ◌∷◌, Bool, true, ◌&&◌, nat_lt, Option, None, Some}
 use Rattle.when_expr.specs.declared.steps.Step.{Step}
 use Rattle.when_expr.specs.declared.steps.Step.TheVariants.{Literal, Test, Not, And, Or}
 use Rattle.when_expr.specs.Truth.{test_truth, not_then, and_then, or_then}

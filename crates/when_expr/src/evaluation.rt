@@ -123,13 +123,11 @@ fn test_value(left: &Side, comparison: Comparison, right: &Side) -> Option<bool>
     match comparison {
         Comparison::Equal => Some(is_same(left, right)),
         Comparison::Unequal => Some(!is_same(left, right)),
-        Comparison::Below
-        | Comparison::AtMost
-        | Comparison::Above
-        | Comparison::AtLeast => match both_numbers(left, right) {
-            None => None,
-            Some(numbers) => Some(compared(numbers, comparison)),
-        },
+        Comparison::Below | Comparison::AtMost | Comparison::Above | Comparison::AtLeast =>
+            match both_numbers(left, right) {
+                None => None,
+                Some(numbers) => Some(compared(numbers, comparison)),
+            },
     }
 }
 

@@ -6,6 +6,8 @@ mod number;
 mod reading;
 mod refused;
 mod steps;
+#[cfg(test)]
+mod tests;
 pub mod when;
 
 pub use refused::{NotNumbers, WhenRefused};

@@ -233,11 +233,7 @@ fn after_operand(kind: Kind, behind: Behind) -> Result<Option<State>, Memory>
     }
 }
 
-fn ended_operand(
-    kind: Kind,
-    operand: Draft,
-    around: Around,
-) -> Result<Option<State>, Memory>
+fn ended_operand(kind: Kind, operand: Draft, around: Around) -> Result<Option<State>, Memory>
     ensures { IfOk result (λ next. next_of next ≡ on_operand (kind_of kind) operand (around_of around)) }
 {
     let behind = behind_operand(operand, around)?;
@@ -267,12 +263,8 @@ fn before_operand(alloc: Global, byte: u8, around: Around) -> Result<Option<Stat
         }
         Kind::Bang => Ok(add_not(around)),
         Kind::Opening => open_level(around),
-        Kind::Closing
-        | Kind::Ampersand
-        | Kind::Bar
-        | Kind::Equals
-        | Kind::Less
-        | Kind::Greater => Ok(None),
+        Kind::Closing | Kind::Ampersand | Kind::Bar | Kind::Equals | Kind::Less | Kind::Greater =>
+            Ok(None),
     }
 }
 
@@ -437,12 +429,7 @@ fn in_word(
     }
 }
 
-fn after_quote(
-    alloc: Global,
-    text: Vec<u8>,
-    place: Place,
-    around: Around,
-) -> Result<State, Memory>
+fn after_quote(alloc: Global, text: Vec<u8>, place: Place, around: Around) -> Result<State, Memory>
     ensures { IfOk result (λ next. state_of next ≡ side_done (place_of place) (quoted text.items) (around_of around)) }
 {
     let right = Side::Quoted(Bytes::from_vec(text));

@@ -1,4 +1,4 @@
-use Rattle.std.proofs.Common.{◌≡◌, ap, sym, ◌∙◌, Some}
+use Rattle.std.proofs.Common.{ap, sym, ◌∙◌}
 use Rattle.depends_expr.specs.Reading.{read, start}
 use Rattle.depends_expr.proofs.Held.{meant}
 use Rattle.depends_expr.proofs.Peaks.{low}

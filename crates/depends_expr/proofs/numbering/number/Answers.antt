@@ -1,4 +1,3 @@
-use Rattle.std.proofs.Common.{arith}
 use Rattle.depends_expr.proofs.Numberings.{numbers_next}
 use Rattle.depends_expr.proofs.numbering.number.Goals as goal
 

@@ -1,4 +1,4 @@
-use Rattle.std.proofs.Common.{◌≡◌, refl}
+use Rattle.std.proofs.Common.{refl}
 use Rattle.serde_json.proofs.Views.{items_len-items_view}
 use Rattle.field_kinds.proofs.values.is_longer.Goals as goal
 

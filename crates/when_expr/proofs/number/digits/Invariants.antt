@@ -1,4 +1,4 @@
-use Rattle.std.proofs.Common.{◌≡◌, ◌≤◌, drop}
+use Rattle.std.proofs.Common.{◌≡◌, drop}
 use Rattle.when_expr.specs.Truth.{digits_from}
 use Rattle.when_expr.proofs.number.digits.Given as goal
 

@@ -1,4 +1,4 @@
-use Rattle.std.proofs.Common.{◌≡◌, ap, sym, ◌∙◌, Some}
+use Rattle.std.proofs.Common.{ap, sym, ◌∙◌}
 use Rattle.when_expr.specs.Reading.{read, start}
 use Rattle.when_expr.proofs.Held.{meant}
 use Rattle.when_expr.proofs.Peaks.{low}

@@ -1,4 +1,4 @@
-use Rattle.std.proofs.Common.{◌≡◌, ap, sym, subst, ◌∙◌, []}
+use Rattle.std.proofs.Common.{ap, sym, subst, ◌∙◌, []}
 use Rattle.std.specs.Prelude.{IsTrue}
 use Rattle.when_expr.specs.Truth.{truth}
 use Rattle.when_expr.specs.Values.{values, top_value, fits}

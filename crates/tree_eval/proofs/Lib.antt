@@ -1,0 +1,11 @@
+pub mod Facts
+pub mod Appended
+pub mod Grown
+pub mod Turns
+pub mod Phases
+pub mod Same
+pub mod Meant
+pub mod Index
+pub mod Ends
+pub mod Begun
+pub mod Kept

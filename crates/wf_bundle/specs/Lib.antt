@@ -1,0 +1,7 @@
+pub mod Checks
+pub mod Forms
+pub mod Names
+pub mod Outcomes
+pub mod PodOutcomes
+pub mod Pods
+pub mod Same

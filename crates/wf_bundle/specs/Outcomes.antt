@@ -1,0 +1,38 @@
+-- What is planned for the pods of a document. The resource `PodOutcomes`, which says it, is this project's own.
+use Rattle.std.specs.Prelude.{ℕ, List, Bool, ◌&&◌, Option, Some, None, option_map, bytes_eq}
+use Rattle.std.specs.List.{find}
+use Rattle.tree_types.specs.declared.outcome.Outcome.{Outcome}
+use Rattle.wf_bundle.specs.declared.outcome.PlannedOutcome.{PlannedOutcome}
+use Rattle.wf_bundle.specs.declared.outcome.PlannedPod.{PlannedPod}
+use Rattle.wf_bundle.specs.declared.outcome.Plan.{Plan}
+
+abbrev pub is_for : List ℕ → List ℕ → PlannedPod → Bool
+is_for workflow node pod = bytes_eq workflow pod.workflow && bytes_eq node pod.node
+
+abbrev pub or_default : Option PlannedOutcome → Option PlannedOutcome → Option PlannedOutcome
+or_default default None = default
+or_default default (Some outcome) = Some outcome
+
+-- what is planned by the first of these for the pod of a node
+abbrev pub named : List ℕ → List ℕ → List PlannedPod → Option PlannedOutcome
+named workflow node pods = option_map (λ pod. pod.outcome) (find (is_for workflow node) pods)
+
+-- what is planned for the pod of a node: by the first member of `pods` for it, else by the default
+abbrev pub planned_for : Plan → List ℕ → List ℕ → Option PlannedOutcome
+planned_for plan workflow node = or_default plan.default (named workflow node plan.pods)
+
+-- an outcome without ticks
+abbrev pub outcome_of : PlannedOutcome → Outcome
+outcome_of o = record {
+  phase = o.phase;
+  result = o.result;
+  params = o.params;
+  transient = o.transient;
+  begin = 0;
+  finish = 0;
+  ended = o.ended;
+}
+
+-- what is planned for the nodes of a workflow, by their names
+abbrev pub planned : Plan → List ℕ → List ℕ → Option Outcome
+planned plan workflow node = option_map outcome_of (planned_for plan workflow node)
