@@ -1,5 +1,5 @@
 -- The parts of a format, mark by mark.
-use Rattle.std.proofs.Common.{rules, ◌≡◌, ◌≢◌, ◌⊎◌, ℕ, zero, suc, ◌+◌, ◌-◌, ◌<◌, ◌≤◌, Bool, true, false, ◌&&◌, List, [], ◌∷◌, ◌++◌, length, drop, get_or, map, arith, refl, sym, ◌∙◌, ap, subst, inl, inr, codes, nat_eq, cond, Option, Some, None, Ok, Err, option_map, length-append, append_assoc}
+use Rattle.std.proofs.Common.{◌≡◌, ◌≢◌, ◌⊎◌, ℕ, zero, suc, ◌+◌, ◌-◌, ◌<◌, ◌≤◌, Bool, true, false, ◌&&◌, List, [], ◌∷◌, ◌++◌, length, drop, get_or, arith, refl, sym, ◌∙◌, ap, inl, inr, codes, nat_eq, cond, Option, Some, None, Ok, Err, option_map, append_assoc}
 use Rattle.std.specs.Prelude.{nat_le, ◌==◌, count_by}
 use Rattle.std.specs.List.{starts_with, sum_by}
 use Rattle.std.proofs.lemmas.Bool.{cond-true, cond-false, cases_Bool, eqb-true, ne_eqb, and_right}

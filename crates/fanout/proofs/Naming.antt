@@ -1,32 +1,16 @@
 -- What an item says in the name of its node.
-use Rattle.std.proofs.Common.{◌≡◌, ◌≢◌, ℕ, suc, ◌<◌, Bool, true, false, ◌&&◌, ◌||◌, cond, List, [], ◌∷◌, ◌++◌, length, get_or, Option, Some, None, arith, refl, sym, ap, ◌∙◌, codes, append_assoc, append-nil}
+use Rattle.std.proofs.Common.{◌≡◌, ◌≢◌, ℕ, suc, ◌<◌, Bool, true, false, ◌||◌, cond, List, [], ◌∷◌, ◌++◌, length, get_or, Some, arith, refl, sym, ap, ◌∙◌, codes, append_assoc, append-nil}
 use Rattle.std.specs.Prelude.{◌==◌, filter, not}
 use Rattle.std.specs.List.{join_with_byte}
-use Rattle.std.proofs.lemmas.Bool.{and_parts, ne_eqb, cases_Bool}
+use Rattle.std.proofs.lemmas.Bool.{ne_eqb}
 use Rattle.std.proofs.lemmas.List.Elements.{filter-append}
 use Rattle.serde_json.specs.Data.{Data, null, boolean, number, string, array, object, Members, no_members, member}
 use Rattle.serde_json.specs.Find.{as_object}
 use Rattle.fanout.specs.Items.{is_whole, members_are_whole}
-use Rattle.fanout.specs.ItemTexts.{item_text, pair_texts, without_parentheses, name_text}
+use Rattle.fanout.specs.ItemTexts.{item_text, pair_texts, without_parentheses}
 use Rattle.fanout.specs.Shapes.{and_pair}
 
--- ---- an item by whether it is a map
-
-pub name_text-object : (d : Data) (ms : Members) → as_object d ≡ Some ms → name_text d ≡ without_parentheses (join_with_byte 44 (pair_texts ms))
-name_text-object null ms e = cc
-name_text-object (boolean b) ms e = cc
-name_text-object (number n) ms e = cc
-name_text-object (string s) ms e = cc
-name_text-object (array ds) ms e = cc
-name_text-object (object os) ms e = let same : os ≡ ms = cc in ap (λ z. without_parentheses (join_with_byte 44 (pair_texts z))) same
-
-pub name_text-other : (d : Data) → as_object d ≡ None → name_text d ≡ without_parentheses (item_text d)
-name_text-other null e = refl
-name_text-other (boolean b) e = refl
-name_text-other (number n) e = refl
-name_text-other (string s) e = refl
-name_text-other (array ds) e = refl
-name_text-other (object ms) e = cc
+-- ---- a map's members
 
 pub whole_members : (d : Data) (ms : Members) → as_object d ≡ Some ms → is_whole d ≡ true → members_are_whole ms ≡ true
 whole_members null ms e w = cc
@@ -70,10 +54,6 @@ with_pairs-first (b ∷ k) d ms = with_pairs-commas b ((k ++ codes ":") ++ item_
 pub with_pairs-all : (ms : Members) → with_pairs [] ms ≡ join_with_byte 44 (pair_texts ms)
 with_pairs-all no_members = refl
 with_pairs-all (member k d ms) = with_pairs-first k d ms ∙ sym (join-commas (pair k d) ms)
-
-pub and_pair-more : (t p : List ℕ) → t ≢ [] → and_pair t p ≡ (t ++ codes ",") ++ p
-and_pair-more [] p some = absurd (some refl)
-and_pair-more (b ∷ t) p some = refl
 
 -- ---- parentheses
 

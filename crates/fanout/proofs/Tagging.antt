@@ -1,5 +1,5 @@
 -- The tags of a map's members, given one after the other.
-use Rattle.std.proofs.Common.{◌≡◌, ℕ, Bool, true, false, cond, List, [], ◌∷◌, ◌++◌, Some, None, string_bytes, refl, sym, ap, ◌∙◌, subst, inl, inr, codes, nat_cmp, Less, Greater}
+use Rattle.std.proofs.Common.{◌≡◌, ℕ, false, cond, List, [], ◌∷◌, ◌++◌, Some, string_bytes, refl, sym, ap, ◌∙◌, inl, inr, codes, nat_cmp, Less, Greater}
 use Rattle.std.specs.Prelude.{bytes_eq}
 use Rattle.std.specs.Cmp.Lexicographic.{slice_cmp}
 use Rattle.std.specs.List.{AllByRecursion}
@@ -10,34 +10,13 @@ use Rattle.std.specs.String.{string_cmp}
 use Rattle.std.proofs.lemmas.Bool.{cond-true, cond-false, cases_Bool, false_from_ne_true}
 use Rattle.std.proofs.lemmas.Cmp.{nat_list_cmp_total}
 use Rattle.std.proofs.lemmas.Slice.Eq.{bytes_eq-Decides}
-use Rattle.serde_json.specs.Data.{Data, null, boolean, number, string, array, object, Members, no_members, member}
-use Rattle.serde_json.specs.Find.{as_object}
+use Rattle.serde_json.specs.Data.{Members, no_members, member}
 use Rattle.serde_json.specs.View.{view, members_view}
 use Rattle.serde_json.proofs.Views.{Entry}
 use Rattle.scopes.specs.Substitution.{Scope, value_in}
 use Rattle.scopes.specs.Values.{HasValuesOf}
-use Rattle.scopes.proofs.Lookups.{cons_alike, alike_trans}
-use Rattle.fanout.specs.ItemTexts.{item_text, item_tags, member_tags}
-
--- ---- an item by whether it is a map
-
-pub item_tags-object : (d : Data) (ms : Members) → as_object d ≡ Some ms → item_tags d ≡ (codes "item", item_text d) ∷ member_tags ms
-item_tags-object null ms e = cc
-item_tags-object (boolean b) ms e = cc
-item_tags-object (number n) ms e = cc
-item_tags-object (string s) ms e = cc
-item_tags-object (array ds) ms e = cc
-item_tags-object (object os) ms e = let same : os ≡ ms = cc in ap (λ z. (codes "item", item_text (object os)) ∷ member_tags z) same
-
-pub item_tags-other : (d : Data) → as_object d ≡ None → item_tags d ≡ (codes "item", item_text d) ∷ []
-item_tags-other null e = refl
-item_tags-other (boolean b) e = refl
-item_tags-other (number n) e = refl
-item_tags-other (string s) e = refl
-item_tags-other (array ds) e = refl
-item_tags-other (object ms) e = cc
-
--- ---- members
+use Rattle.scopes.proofs.Lookups.{cons_alike}
+use Rattle.fanout.specs.ItemTexts.{item_text, member_tags}
 
 -- a scope to which the members are added, each in front of those before it
 abbrev pub with_members : Scope → Members → Scope

@@ -1,5 +1,5 @@
 -- A fault goes through what follows.
-use Rattle.std.proofs.Common.{◌≡◌, ◌≢◌, Result, Ok, Err, refl, ap, sym, ◌∙◌, subst}
+use Rattle.std.proofs.Common.{◌≡◌, Result, Err, ap, sym, subst}
 use Rattle.fanout.specs.declared.refused.FanRefused.{FanRefused}
 use Rattle.fanout.specs.declared.refused.FanRefused.TheVariants.{NotList, BadItem, BadNumber, BadFormat, TooManyItems, Unresolved, Memory}
 use Rattle.scopes.specs.Substitution.{Found, ◌>>=◌}

@@ -1,18 +1,18 @@
 -- Whether the values of a list have whole numbers, value by value, and that the items of a sequence have.
-use Rattle.std.proofs.Common.{◌≡◌, ℕ, suc, zero, ◌+◌, ◌<◌, Bool, true, false, ◌&&◌, List, [], ◌∷◌, length, get_or, drop, map, arith, refl, sym, ap, ◌∙◌, cond, Option, Some, None, Result, add-one, Vec, Global, Ok, Err, ◌≤◌}
+use Rattle.std.proofs.Common.{◌≡◌, ℕ, suc, zero, ◌+◌, ◌<◌, true, false, ◌&&◌, List, [], ◌∷◌, length, get_or, drop, map, arith, refl, sym, ap, ◌∙◌, Option, Some, Result, add-one, Vec, Global, Ok, Err, ◌≤◌}
 use Rattle.std.proofs.lemmas.List.{length-map}
-use Rattle.std.specs.Prelude.{nat_le, ℤ, IsTrue, IfOk}
+use Rattle.std.specs.Prelude.{nat_le, slice_get, ℤ, IsTrue, IfOk}
 use Rattle.std.specs.List.{list_all}
-use Rattle.std.proofs.lemmas.Bool.{cond-true, cond-false, lt-leb, le-leb}
+use Rattle.std.proofs.lemmas.Bool.{and_parts, cond-true, cond-false, lt-leb, le-leb}
 use Rattle.tree_types.specs.declared.node.Note.TheVariants as note
-use Rattle.serde_json.specs.Data.{Data, null, boolean, number, string, array, object}
+use Rattle.serde_json.specs.Data.{Data}
 use Rattle.scopes.specs.Substitution.{Found, ◌>>=◌}
 use Rattle.fanout.specs.Faults.{Tells}
 use Rattle.fanout.specs.declared.refused.FanRefused.{FanRefused}
 use Rattle.serde_json.proofs.Views.{view-Array}
 use Rattle.serde_json.specs.View.{view, items_view, items_of}
 use Rattle.serde_json.specs.declared.value.Value.{Value, Array}
-use Rattle.fanout.specs.Items.{is_whole, are_whole, list_of, few_items, checked_items, items_of_data, items_of_read, number_items, sequence_items}
+use Rattle.fanout.specs.Items.{is_whole, are_whole, list_of, few_items, checked_items, items_of_data, number_items, sequence_items}
 use Rattle.fanout.specs.Sequences.{most_items, Format, sequence_texts}
 use Rattle.std.proofs.Math.Seq.{drop-cons}
 
@@ -58,7 +58,7 @@ good_items v good few =
 
 -- ---- the items of a sequence have no number
 
-abbrev Whole : List Data → Type 0
+abbrev pub Whole : List Data → Type 0
 Whole ds = list_all is_whole ds ≡ true
 
 numbers_whole : (f : Format) (zs : List ℤ) → Whole (number_items (f, zs))
@@ -83,3 +83,12 @@ pub sequence_items_whole : (count start end format : Option (List ℕ)) (r : Res
 sequence_items_whole count start end format r told =
     let texts = sequence_texts count start end format in
     told_whole (sequence_items count start end format) r (λ es e. then_whole texts (λ row. Ok (number_items row)) es (λ row. row_whole row es) e) told
+
+-- an item of a list whose items are whole
+pub whole_item : (es : List Data) (i : ℕ) (d : Data) → Whole es → slice_get es i ≡ Some d → is_whole d ≡ true
+whole_item [] i d whole e = absurd (cc)
+whole_item (y ∷ es) zero d whole e =
+    let here : Some y ≡ Some d = e in
+    let same : y ≡ d = cc in
+    ap is_whole (sym same) ∙ (and_parts (is_whole y) (list_all is_whole es) whole).0
+whole_item (y ∷ es) (suc i) d whole e = whole_item es i d (and_parts (is_whole y) (list_all is_whole es) whole).1 e

@@ -1,5 +1,5 @@
 -- A format by its one number: the text before it, its width, and the text after it.
-use Rattle.std.specs.Prelude.{◌≡◌, ℕ, List, [], ◌∷◌, ◌++◌, length, map, Bool, nat_eq, Option, Some, None, option_map, Result, Ok, Err, if◌then◌else◌, codes, drop}
+use Rattle.std.specs.Prelude.{◌≡◌, ℕ, List, [], ◌∷◌, ◌++◌, length, map, nat_eq, Option, Some, option_map, Result, Ok, Err, if◌then◌else◌, codes, drop}
 use Rattle.std.specs.List.{starts_with}
 use Rattle.std.specs.Borrow.{Bor}
 use Rattle.tree_types.specs.declared.node.Note.TheVariants as note

@@ -1,4 +1,4 @@
-use Rattle.std.proofs.Common.{◌≡◌, ◌∙◌, ap, option_map}
+use Rattle.std.proofs.Common.{◌∙◌, ap, option_map}
 use Rattle.fanout.specs.Sequences.{checked_format}
 use Rattle.fanout.specs.Shapes.{around}
 use Rattle.fanout.proofs.Formats.{checked-around}

@@ -1,4 +1,4 @@
-use Rattle.std.proofs.Common.{◌≡◌, rules, List, ℕ, [], ◌∷◌, ◌++◌, Some, None, option_map, sym, ◌∙◌, ap, subst, lit<}
+use Rattle.std.proofs.Common.{◌≡◌, rules, [], ◌∷◌, ◌++◌, Some, None, option_map, sym, ◌∙◌, ap, subst, lit<}
 use Rattle.std.proofs.lemmas.Str.Pattern.{strip_prefix_char, split_parts}
 use Rattle.fanout.specs.Shapes.{plain, around, parts_in}
 use Rattle.fanout.proofs.Formats.{step_double, step_number, step_bad, step_plain}

@@ -1,4 +1,4 @@
-use Rattle.std.proofs.Common.{◌≡◌, ℕ, List, ◌++◌, length, option_map}
+use Rattle.std.proofs.Common.{◌≡◌, ◌++◌, length, option_map}
 use denote.Text.{Utf8}
 use denote.Shadow.{shadow}
 use Rattle.fanout.specs.Shapes.{plain, parts_in}

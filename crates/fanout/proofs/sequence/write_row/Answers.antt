@@ -1,4 +1,4 @@
-use Rattle.std.proofs.Common.{◌+◌, ◌-◌, ◌++◌, map, List, ℤ, ap, ◌∙◌}
+use Rattle.std.proofs.Common.{◌+◌, ◌-◌, ◌++◌, map, ℤ, ap, ◌∙◌}
 use Rattle.serde_json.specs.Data.{Data, string}
 use Rattle.fanout.specs.Items.{number_items}
 use Rattle.fanout.specs.Rows.{row_of, number_from}

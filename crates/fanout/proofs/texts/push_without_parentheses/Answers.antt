@@ -1,4 +1,4 @@
-use Rattle.std.proofs.Common.{◌≡◌, rules, ◌∷◌, ◌++◌, Some, None, sym, ◌∙◌, ap, subst, lit<, OnOk}
+use Rattle.std.proofs.Common.{◌≡◌, rules, ◌++◌, Some, None, sym, ◌∙◌, ap, subst, lit<, OnOk}
 use Rattle.fanout.specs.ItemTexts.{without_parentheses}
 use Rattle.std.proofs.lemmas.Str.Pattern.{split_parts}
 use Rattle.fanout.proofs.Naming.{opening_cut, opening_end}
