@@ -9,8 +9,6 @@ mod recorded;
 mod refused;
 mod tally;
 mod templates;
-#[cfg(test)]
-mod tests;
 mod walk;
 mod whole;
 
