@@ -1,4 +1,6 @@
 -- Pods, attempts, suspended nodes and steps grow: what is finished stays, and each node is kept.
+use Rattle.tree_types.specs.declared.path.Sel.{Sel}
+use Rattle.std.proofs.Math.Logic.{inl}
 use Rattle.std.proofs.Common.{◌≡◌, refl, sym, ◌∙◌, ap, subst}
 use Rattle.std.specs.Prelude.{ℕ, zero, suc, List, [], ◌∷◌, ◌++◌, Bool, true, false, cond, ◌||◌, Option, Some, None, Ok, Err, map, codes}
 use Rattle.tree_types.specs.declared.phase.Phase.{Phase}
@@ -29,7 +31,7 @@ use Rattle.meaning.specs.Suspends.{seconds_of, suspend_wants, suspend_by, suspen
 use Rattle.meaning.specs.Steps.{Runner, Member, member_place, member, makings, group_phase, group_made, group_tags, Groups, before_groups, group_place, groups_by, members_at, groups_from, steps_phase, steps_by, steps_made}
 use Rattle.growth.specs.Growth.{SaysMore, New}
 use Rattle.growth.proofs.Rows.{Pairs, pairs_from, pairs_same}
-use Rattle.growth.proofs.Lines.{Begins, Holds, past_wants, one_of, Proper, Nowhere, Under, Inside, AtChild, From, Fair, fair_child, fair_rest, fair_below, fair_map, from_inside, rows_fair, under_at_child}
+use Rattle.growth.proofs.Lines.{from_under, Begins, Holds, past_wants, one_of, Proper, Under, Inside, AtChild, From, Fair, fair_child, fair_rest, fair_below, fair_map, from_inside, rows_fair, under_at_child}
 use Rattle.growth.proofs.Keeping.{not_both, AllKept, Later, Grew, Begun, all_left, all_append, all_beside, all_same, wants_kept, unchanged, begun_beside, begun_below, begun_nothing, rows_kept, rows_begun, At, node_at, ending_ends, same_place, open_follows, made_later}
 use Rattle.growth.proofs.Paths.{paths}
 use Rattle.growth.proofs.SoundBodies.{group_at, step_at, group_ways, step_ways, members_laid, StepsFit, Topped, pod_proper, retry_at, retry_proper, suspend_topped, Sound, at_child, members_proper, group_called, groups_sound}
@@ -39,7 +41,7 @@ pub open_later : (A : Answers) (p : Place) (n : Node) (ws : List Want) (b : Made
 open_later A p n ws b at_n f h = record {
   done = λ t. not_both (fulfilled n.phase) t f;
   top = λ t. not_both (fulfilled n.phase) t f;
-  kept = subst (λ (ls : List Line). AllKept (Stands n ∷ (map Asks ws ++ [])) ls) (sym h.lines) ((h.first, Rattle.std.proofs.Math.Logic.inl refl, open_follows p n h.first at_n h.at f), all_append (map Asks ws) [] (Stands h.first ∷ h.rest) (wants_kept ws (Stands h.first ∷ h.rest)) tt);
+  kept = subst (λ (ls : List Line). AllKept (Stands n ∷ (map Asks ws ++ [])) ls) (sym h.lines) ((h.first, inl refl, open_follows p n h.first at_n h.at f), all_append (map Asks ws) [] (Stands h.first ∷ h.rest) (wants_kept ws (Stands h.first ∷ h.rest)) tt);
 }
 
 -- ---- pods
@@ -224,7 +226,7 @@ Growing A B run ran = (prefix : List ℕ) (p : Place) (s : Scope) (c : Call) →
 
 module _ (A B : Answers) (run ran : Runner) (sound : Sound paths A run) (grows : Growing A B run ran) where
   -- what newly begins at or below a child, begins below it
-  pub fair_under : (P : Sels) (s : Rattle.tree_types.specs.declared.path.Sel.Sel) (ls : List Line) → Fair (New A B) (AtChild P s) ls → Fair (New A B) (Under (P ++ s ∷ [])) ls
+  pub fair_under : (P : Sels) (s : Sel) (ls : List Line) → Fair (New A B) (AtChild P s) ls → Fair (New A B) (Under (P ++ s ∷ [])) ls
   fair_under P s ls f = fair_map (New A B) (AtChild P s) (Under (P ++ s ∷ [])) ls (under_at_child P s) f
 
   module _ (p : Place) (i : ℕ) (s : Scope) (cs : List Call) where
@@ -246,7 +248,7 @@ module _ (A B : Answers) (run ran : Runner) (sound : Sound paths A run) (grows :
     -- the members of a group by which what newly begins may begin
     members_grew : Fair (New A B) (Under q.sels) g.lines → MembersGrew (New A B) before now
     members_grew f =
-        let below = fair_below (New A B) (From step_at q.sels 0) (group_node q before) [] (lines_of (makings before)) (fair_map (New A B) (Under q.sels) (From step_at q.sels 0) g.lines (λ x k. Rattle.growth.proofs.Lines.from_under step_at step_ways q.sels 0 x k) f) in
+        let below = fair_below (New A B) (From step_at q.sels 0) (group_node q before) [] (lines_of (makings before)) (fair_map (New A B) (Under q.sels) (From step_at q.sels 0) g.lines (λ x k. from_under step_at step_ways q.sels 0 x k) f) in
         let each = rows_fair step_at step_ways q.sels members_laid A (New A B) 0 before (members_proper paths A run sound q s 0 cs) below in
         pairs_from (member run q s) (member ran q s) (λ j m. Fair (New A B) (AtChild q.sels (step_at j)) m.1.lines) (MemberGrew (New A B)) 0 cs (λ j c k. (refl, grows (codes "steps.") (member_place q j c) s c (fair_under q.sels (step_at j) (member run q s j c).1.lines k))) each
 

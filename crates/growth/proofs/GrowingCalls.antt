@@ -37,9 +37,9 @@ use Rattle.meaning.specs.Calls.{template_named, kind_of, kind_named, entered, ho
 use Rattle.growth.specs.Growth.{SaysMore, New}
 use Rattle.growth.proofs.Rows.{Pairs, pairs_from, pairs_same}
 use Rattle.growth.proofs.Lines.{Any, IsNode, IsAt, Begins, Proper, Nowhere, Under, Inside, AtChild, From, Fair, fair_left, fair_right, fair_below, fair_map, rows_fair, inside_under, exit_apart, child_under, from_under}
-use Rattle.growth.proofs.Keeping.{not_both, KeptLine, AllKept, SameTop, Later, Begun, Grew, kept_in, all_left, all_beside, same_top, unchanged, begun_beside, begun_left, begun_below, still, rows_kept, rows_begun, At, node_at, made_later}
+use Rattle.growth.proofs.Keeping.{all_right, same_place, not_both, SameTop, Later, Begun, Grew, kept_in, all_left, all_beside, same_top, unchanged, begun_beside, begun_left, begun_below, still, rows_kept, rows_begun, At, node_at}
 use Rattle.growth.proofs.Paths.{paths, all_fit}
-use Rattle.growth.proofs.SoundBodies.{items_laid, Topped, Called, Sound}
+use Rattle.growth.proofs.SoundBodies.{topped_called, items_laid, Topped, Sound}
 use Rattle.growth.proofs.SoundCalls.{item_at, item_ways, BodyFits, FoundFits, named_fits, base_topped, remembered_topped, locked_topped, template_topped, hook_topped, Stops, before_loop_stops, at_item_stops, items_proper, calls_sound}
 use Rattle.growth.proofs.GrowingBodies.{open_later, succeeded_fulfilled, pod_grew, retry_grew, suspend_grew, Growing, fair_under, steps_grew}
 use Rattle.growth.proofs.GrowingDags.{dag_grew}
@@ -94,13 +94,13 @@ loop_grew N p ds ms ns h =
     let n : Node = loop_node p ds ms (all_finished ms) in
     let o : Node = loop_node p ds ns (all_finished ns) in
     let same = λ (t : fulfilled n.phase ≡ true). pairs_same (λ m. m.finished) all_finished (λ i x y. Grew N x y) 0 ms ns (λ m xs. refl) (λ i x y r e. r.later.done e) h (loop_fulfilled p ds ms (all_finished ms) t) in
-    let follows = Rattle.growth.proofs.Keeping.same_place p n o (loop_at p ds ms (all_finished ms)) (loop_at p ds ns (all_finished ns)) (λ t. ap (λ (x : List Made). loop_node p ds x (all_finished x)) (same t)) in
+    let follows = same_place p n o (loop_at p ds ms (all_finished ms)) (loop_at p ds ns (all_finished ns)) (λ t. ap (λ (x : List Made). loop_node p ds x (all_finished x)) (same t)) in
     let kept = rows_kept items_laid items_laid (λ i x y. Grew N x y) 0 ms ns (λ j x y r. r.later.kept) h in
     record {
       later = record {
         done = λ t. ap (loop_made p ds) (same t);
         top = λ t. same_top (ap (loop_made p ds) (same t));
-        kept = ((o, inl refl, follows), Rattle.growth.proofs.Keeping.all_right (lines_of ms) (Stands o ∷ []) (lines_of ns) kept);
+        kept = ((o, inl refl, follows), all_right (lines_of ms) (Stands o ∷ []) (lines_of ns) kept);
       };
       begun = begun_below N n o [] [] (lines_of ms) (lines_of ns) (rows_begun items_laid items_laid N (λ i x y. Grew N x y) 0 ms ns (λ j x y r. r.begun) h);
     }
@@ -225,7 +225,7 @@ module _ (m : Manifest) (A B : Answers) (g : SaysMore A B) (flow : Scope) (run r
     hooked_if_grew : (t u : Bool) → hook_runs a.phase ≡ t → hook_runs b.phase ≡ u → FairAt p (hooked_if m A flow run t label p s h a) → Grew (New A B) (hooked_if m A flow run t label p s h a) (hooked_if m B flow ran u label p s h b)
     hooked_if_grew true u e f fair =
         let r : Made = hook_made m B flow ran label p s h b in
-        let proper = Rattle.growth.proofs.SoundBodies.topped_called paths A (hook_place p) hook (hook_topped paths A m flow run (all_fit m.templates) sound label p s h a) in
+        let proper = topped_called paths A (hook_place p) hook (hook_topped paths A m flow run (all_fit m.templates) sound label p s h a) in
         let l : Grew (New A B) a b = later (fair_left (New A B) (Under p.sels) (Inside p.sels) (Under (hook_place p).sels) A a.lines hook.lines (inside_under p.sels) (exit_apart p.sels) proper.proper fair) in
         let below : FairAt (hook_place p) hook = fair_right (New A B) (Under p.sels) (Under (hook_place p).sels) (Inside p.sels) A a.lines hook.lines (child_under p.sels Exit) (λ q x y. exit_apart p.sels q y x) top.proper fair in
         let over : a.finished ≡ true = top.over ∙ runs_fulfilled a.phase e in

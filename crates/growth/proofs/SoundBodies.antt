@@ -40,7 +40,7 @@ use Rattle.meaning.specs.Pods.{outputs_of, pod_by, Attempts, ends_with, first_be
 use Rattle.meaning.specs.Suspends.{seconds_of, timer_wants, suspend_wants, suspend_by, suspended, suspend_made}
 use Rattle.meaning.specs.Steps.{Runner, Member, member_place, member, members, makings, group_phase, group_made, Groups, group_place, groups_by, members_at, groups_from, steps_phase, steps_made}
 use Rattle.meaning.specs.Dags.{Standing, waiting, ready, exists, Look, Standings, look, task_place, tags_before, awaited, is_meant, free_by, free, decided_by, waits_by, meant, meant_by, standing, with_standing, rounds, standings, is_doomed, dag_phase, standing_lines, task_lines, dag_lines, dag_tags, dag_made}
-use Rattle.growth.proofs.Rows.{All, all_numbered, Laid}
+use Rattle.growth.proofs.Rows.{all_map, All, all_numbered, Laid}
 use Rattle.growth.proofs.Lines.{Has, AllOpen, Unresumed, Proper, proper_append, proper_map, proper_wants, Nowhere, Under, Inside, AtChild, From, inside_under, under_at_child, Ways, from_inside, child_then, rows_proper}
 use Rattle.growth.proofs.Keeping.{At, node_at, ending_ends}
 use Rattle.growth.proofs.Geometry.{Descent, down, Geometry, Placed, placed_map, placed_none, placed_wants, placed_before, Inner, Top, outer, placed_made, Kin, Kids, kids_inner, placed_then, placed_last, rows_placed, kin_numbers}
@@ -381,7 +381,7 @@ module _ (G : Geometry) (A : Answers) where
       line_placed false k t (exists m b seen) h = h.placed
 
       pub lines_proper : (x : Bool) (i : ℕ) (ss : Standings) → All (λ k y. StandSound k y.0 y.1) i ss → All (λ k y. Proper A (AtChild p.sels (task_at k)) (task_lines x p k y)) i ss
-      lines_proper x i ss h = Rattle.growth.proofs.Rows.all_map (λ k y. StandSound k y.0 y.1) (λ k y. Proper A (AtChild p.sels (task_at k)) (task_lines x p k y)) i ss (λ k y. line_proper x k y.0 y.1) h
+      lines_proper x i ss h = all_map (λ k y. StandSound k y.0 y.1) (λ k y. Proper A (AtChild p.sels (task_at k)) (task_lines x p k y)) i ss (λ k y. line_proper x k y.0 y.1) h
 
       rounds_placed : (x : Bool) (n : ℕ) → DagFits G d → Placed G (Kids G task_step p 0 d.tasks) (dag_lines x p (rounds A run p s d n))
       rounds_placed x zero k = placed_none G (Kids G task_step p 0 d.tasks)
