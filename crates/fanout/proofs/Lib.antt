@@ -1,6 +1,8 @@
 pub mod Formats
+pub mod Naming
 pub mod Numerals
 pub mod Saying
+pub mod Tagging
 pub mod Telling
 pub mod Spoken
 pub mod Wholes

@@ -1,16 +1,19 @@
--- Whether the values of a list have whole numbers, value by value.
-use Rattle.std.proofs.Common.{◌≡◌, ℕ, suc, zero, ◌+◌, ◌<◌, Bool, true, false, ◌&&◌, List, [], ◌∷◌, length, get_or, drop, map, arith, refl, ap, ◌∙◌, add-one, Vec, Global, Ok, Err, ◌≤◌}
+-- Whether the values of a list have whole numbers, value by value, and that the items of a sequence have.
+use Rattle.std.proofs.Common.{◌≡◌, ℕ, suc, zero, ◌+◌, ◌<◌, Bool, true, false, ◌&&◌, List, [], ◌∷◌, length, get_or, drop, map, arith, refl, sym, ap, ◌∙◌, cond, Option, Some, None, Result, add-one, Vec, Global, Ok, Err, ◌≤◌}
 use Rattle.std.proofs.lemmas.List.{length-map}
-use Rattle.std.specs.Prelude.{nat_le}
+use Rattle.std.specs.Prelude.{nat_le, ℤ, IsTrue, IfOk}
 use Rattle.std.specs.List.{list_all}
 use Rattle.std.proofs.lemmas.Bool.{cond-true, cond-false, lt-leb, le-leb}
 use Rattle.tree_types.specs.declared.node.Note.TheVariants as note
-use Rattle.serde_json.specs.Data.{Data}
+use Rattle.serde_json.specs.Data.{Data, null, boolean, number, string, array, object}
+use Rattle.scopes.specs.Substitution.{Found, ◌>>=◌}
+use Rattle.fanout.specs.Faults.{Tells}
+use Rattle.fanout.specs.declared.refused.FanRefused.{FanRefused}
 use Rattle.serde_json.proofs.Views.{view-Array}
 use Rattle.serde_json.specs.View.{view, items_view, items_of}
 use Rattle.serde_json.specs.declared.value.Value.{Value, Array}
-use Rattle.fanout.specs.Items.{is_whole, are_whole, list_of, few_items, checked_items, items_of_data}
-use Rattle.fanout.specs.Sequences.{most_items}
+use Rattle.fanout.specs.Items.{is_whole, are_whole, list_of, few_items, checked_items, items_of_data, items_of_read, number_items, sequence_items}
+use Rattle.fanout.specs.Sequences.{most_items, Format, sequence_texts}
 use Rattle.std.proofs.Math.Seq.{drop-cons}
 
 pub are_whole-drop : (vs : List Value) (i : ℕ) (d : Value) → i < length vs → are_whole (items_view (drop i vs)) ≡ (is_whole (view (get_or vs i d)) && are_whole (items_view (drop (i + 1) vs)))
@@ -52,3 +55,31 @@ pub good_items : (v : Vec Value Global) → are_whole (items_view v.items) ≡ t
 good_items v good few =
     let short : length (map view v.items) ≤ 1000 = omega (arith, length-map {B = Data} v.items view) in
     whole_items v good ∙ cond-true (nat_le (length (map view v.items)) most_items) (Ok (map view v.items)) (Err note.TooManyItems) (le-leb (length (map view v.items)) 1000 short)
+
+-- ---- the items of a sequence have no number
+
+abbrev Whole : List Data → Type 0
+Whole ds = list_all is_whole ds ≡ true
+
+numbers_whole : (f : Format) (zs : List ℤ) → Whole (number_items (f, zs))
+numbers_whole f [] = refl
+numbers_whole f (z ∷ zs) = numbers_whole f zs
+
+then_whole : {A : Type 0} (m : Found A) (f : A → Found (List Data)) (es : List Data) → ((x : A) → f x ≡ Ok es → Whole es) → (m >>= f) ≡ Ok es → Whole es
+then_whole (Ok x) f es h e = h x e
+then_whole (Err n) f es h e = cc
+
+abbrev Gives : Found (List Data) → List Data → Type 0
+Gives found es = found ≡ Ok es
+
+row_whole : (row : Format × List ℤ) (es : List Data) → Gives (Ok (number_items row)) es → Whole es
+row_whole row es e = let same : number_items row ≡ es = cc in ap (λ xs. list_all is_whole xs) (sym same) ∙ numbers_whole row.0 row.1
+
+told_whole : (meant : Found (List Data)) (r : Result (List Data) FanRefused) → ((es : List Data) → Gives meant es → Whole es) → Tells (λ es. es) r meant → IfOk r (λ es. IsTrue (list_all is_whole es))
+told_whole meant (Ok es) h told = h es told
+told_whole meant (Err fault) h told = tt
+
+pub sequence_items_whole : (count start end format : Option (List ℕ)) (r : Result (List Data) FanRefused) → Tells (λ es. es) r (sequence_items count start end format) → IfOk r (λ es. IsTrue (list_all is_whole es))
+sequence_items_whole count start end format r told =
+    let texts = sequence_texts count start end format in
+    told_whole (sequence_items count start end format) r (λ es e. then_whole texts (λ row. Ok (number_items row)) es (λ row. row_whole row es) e) told

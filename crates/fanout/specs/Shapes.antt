@@ -1,5 +1,5 @@
 -- A format by its one number: the text before it, its width, and the text after it.
-use Rattle.std.specs.Prelude.{◌≡◌, ℕ, List, ◌∷◌, ◌++◌, length, map, Bool, nat_eq, Option, Some, None, option_map, Result, Ok, Err, if◌then◌else◌, codes, drop}
+use Rattle.std.specs.Prelude.{◌≡◌, ℕ, List, [], ◌∷◌, ◌++◌, length, map, Bool, nat_eq, Option, Some, None, option_map, Result, Ok, Err, if◌then◌else◌, codes, drop}
 use Rattle.std.specs.List.{starts_with}
 use Rattle.std.specs.Borrow.{Bor}
 use Rattle.tree_types.specs.declared.node.Note.TheVariants as note
@@ -46,3 +46,8 @@ number_behind t = if starts_with nat_eq t (codes "d") then Some (number 0, drop 
 -- a width that was read, and what follows it
 abbrev pub width_read : ℕ × Bor (List ℕ) → FormatPart × List ℕ
 width_read front = (number front.0, front.1.now)
+
+-- a text with one more pair, behind a comma where something stands before it
+abbrev pub and_pair : List ℕ → List ℕ → List ℕ
+and_pair [] p = p
+and_pair (b ∷ t) p = (b ∷ t) ++ codes "," ++ p

@@ -1,7 +1,9 @@
 //! The items of a loop.
 
+ghost use Rattle.std.specs.Prelude.{IfOk, IsTrue};
+ghost use Rattle.std.specs.List.{list_all};
 ghost use Rattle.fanout.specs.Faults.{Tells};
-ghost use Rattle.fanout.specs.Items.{items as items_meant};
+ghost use Rattle.fanout.specs.Items.{items as items_meant, is_whole};
 
 use crate::lists::{items_of, read_items};
 use crate::said::{said_or_none, said_text, said_value};
@@ -13,9 +15,10 @@ use wf_manifest::Loop;
 
 /// The items of a loop in a scope, or its first fault: a tag without a value, then what is no list, a number that is
 /// no whole number of 64 bits, a number or a format of a sequence, and more than 1,000 items. A sequence is refused
-/// before its items are made.
+/// before its items are made. Each item can be said by `item_text` and `name_text`.
 pub fn items(alloc: Global, each: &Loop, scope: &Scope) -> Result<Items, FanRefused>
-    ensures { Tells (λ items. items) result (items_meant scope.now each.now) }
+    ensures told { Tells (λ items. items) result (items_meant scope.now each.now) }
+    ensures whole { IfOk result (λ items. IsTrue (list_all is_whole items)) }
 {
     match each {
         Loop::Items(list) => items_of(alloc, said_value(alloc, list.value(), scope)?),

@@ -8,6 +8,7 @@ mod numbers;
 mod refused;
 mod said;
 mod sequence;
+mod tags;
 #[cfg(test)]
 mod tests;
 mod texts;
@@ -15,7 +16,8 @@ mod texts;
 use base_types::List;
 pub use fanning::items;
 pub use refused::FanRefused;
-pub use texts::item_text;
+pub use tags::add_item_tags;
+pub use texts::{item_text, name_text};
 use wf_manifest::Json;
 
 /// The items of a loop.

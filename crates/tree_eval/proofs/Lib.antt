@@ -8,3 +8,4 @@ pub mod Meant
 pub mod Index
 pub mod Ends
 pub mod Begun
+pub mod Kept

@@ -3,3 +3,4 @@ pub mod Ends
 pub mod Growing
 pub mod Index
 pub mod Told
+pub mod EndIndex

@@ -1,13 +1,12 @@
 -- A document of the form says a manifest of the forms that trees are computed for, by the test that the evaluator's crate has
 -- for them. That crate does not stand below this one, so the test is written here again, word by word.
-use Rattle.std.proofs.Common.{◌≡◌, ℕ, ◌≤◌, List, [], ◌∷◌, length, Bool, true, false, not, ◌&&◌, ◌||◌, nat_lt, nat_le, Option, Some, None, Result, Ok, Err, refl, sym, ap, subst, ◌∙◌, map}
+use Rattle.std.proofs.Common.{◌≡◌, ℕ, List, [], ◌∷◌, length, Bool, true, false, not, ◌&&◌, ◌||◌, nat_lt, nat_le, Option, Some, None, Ok, refl, sym, subst, ◌∙◌}
 use Rattle.std.specs.Prelude.{IsTrue, is_some, is_none, bytes_eq, codes}
 use Rattle.std.specs.List.{AllByRecursion, list_all, list_any, find}
 use Rattle.std.specs.Cmp.Lexicographic.{bytes_decides}
 use Rattle.std.proofs.lemmas.Bool.{and_parts, and_from, le-leb}
 use Rattle.std.proofs.lemmas.List.Folds.{list_all-append}
 use Rattle.serde_json.specs.Data.{Data, Items, no_items, item}
-use Rattle.json_fields.specs.Paths.{Path}
 use Rattle.node_names.specs.Names.{is_name_byte}
 use Rattle.wf_manifest.specs.declared.calls.Call.{Call}
 use Rattle.wf_manifest.specs.declared.templates.Body.{Body}
@@ -15,14 +14,13 @@ use Rattle.wf_manifest.specs.declared.templates.Body.TheVariants as body
 use Rattle.wf_manifest.specs.declared.templates.Template.{Template}
 use Rattle.wf_manifest.specs.declared.manifest.Manifest.{Manifest}
 use Rattle.field_kinds.specs.Reading.{Read, ◌>>=◌, Kind}
-use Rattle.field_kinds.specs.Kinds.{text, of, json_object, object_of, list_of}
+use Rattle.field_kinds.specs.Kinds.{text, json_object, object_of, list_of}
 use Rattle.field_kinds.specs.Fields.{optional, required, no_second}
 use Rattle.field_kinds.proofs.Makes.{Makes, then_ok, ok_is, makes_object, makes_list, makes_list-length, makes_required}
 use Rattle.wf_reader.specs.declared.bodies.BodyKind.{BodyKind}
 use Rattle.wf_reader.specs.declared.bodies.BodyKind.TheVariants as field
 use Rattle.wf_reader.specs.declared.workflow.Spec.{Spec}
 use Rattle.wf_reader.specs.Members.{only}
-use Rattle.wf_reader.specs.Names.{workflow_name}
 use Rattle.wf_reader.specs.Workflows.{step_fields, group, first_body, is_container, body_by, body_in, template_fields, metadata_fields, spec_fields, manifest_of, workflow_fields, workflow}
 use Rattle.wf_bundle.specs.declared.outcome.Plan.{Plan}
 use Rattle.wf_bundle.specs.declared.form.Form.{Form}
@@ -115,7 +113,7 @@ body_made (Some field.Steps) at d b e =
     let P : List (List Call) → Type 0 = λ gs. IsTrue (is_short gs && list_all is_bare_group gs) in
     let a = then_ok (required (list_of 1000 group) (codes "steps") at d) (λ gs. Ok (body.Steps gs)) b e in
     subst (λ b. IsTrue (is_bare_body b)) (ok_is (body.Steps a.0) b a.2)
-        (makes_required (list_of 1000 group) P (codes "steps") (list_made group is_bare_group group_made) at d a.0 a.1)
+    (makes_required (list_of 1000 group) P (codes "steps") (list_made group is_bare_group group_made) at d a.0 a.1)
 
 only_body_made : (k : Option BodyKind) → Makes (body_in k) (λ b. IsTrue (is_bare_body b))
 unfolding body_in
@@ -148,7 +146,7 @@ spec_made at d s e =
     let t = then_ok (required kind (codes "templates") at d) (λ templates. Ok (spec_of b.0 templates)) s b.2 in
     let made = makes_required kind P (codes "templates") (list_made (object_of template_fields) is_bare_template (makes_object template_fields (λ t. IsTrue (is_bare_template t)) template_made)) at d t.0 t.1 in
     subst (λ s. IsTrue (list_all is_bare_template s.templates)) (ok_is (spec_of b.0 t.0) s t.2)
-        (and_parts (is_short t.0) (list_all is_bare_template t.0) made).1
+    (and_parts (is_short t.0) (list_all is_bare_template t.0) made).1
 
 fields_made : Makes workflow_fields (λ m. IsTrue (is_bare m))
 unfolding workflow_fields
@@ -158,7 +156,7 @@ fields_made at d m e =
     let s = then_ok (required (object_of spec_fields) (codes "spec") at d) (λ spec. Ok (manifest_of b.0 spec)) m b.2 in
     let P : Spec → Type 0 = λ spec. IsTrue (list_all is_bare_template spec.templates) in
     subst (λ m. IsTrue (is_bare m)) (ok_is (manifest_of b.0 s.0) m s.2)
-        (makes_required (object_of spec_fields) P (codes "spec") (makes_object spec_fields P spec_made) at d s.0 s.1)
+    (makes_required (object_of spec_fields) P (codes "spec") (makes_object spec_fields P spec_made) at d s.0 s.1)
 
 -- a workflow that is read has nothing but pods and steps
 workflow_made : Makes workflow (λ m. IsTrue (is_bare m))
@@ -228,24 +226,27 @@ named_step name h =
     let short = nat_le (length name) 128 in
     let other = not (bytes_eq name (codes "onExit")) in
     let last = not (bytes_eq name (codes "hooks")) in
-    let a = and_parts (some && short) (bytes && other && last) h in
-    let l = and_parts some short a.0 in
-    let b = and_parts bytes (other && last) a.1 in
-    let o = and_parts other last b.1 in
-    and_from bytes (some && short && other) b.0 (and_from some (short && other) l.0 (and_from short other l.1 o.0))
+    let len = checks.has_step_length (length name) in
+    let p = and_parts (len && bytes && other) last h in
+    let q = and_parts (len && bytes) other p.0 in
+    let r = and_parts len bytes q.0 in
+    let l = and_parts some short r.0 in
+    and_from (bytes && some && short) other (and_from (bytes && some) short (and_from bytes some r.1 l.0) l.1) q.1
 
 module _ (ts : List Template) where
   built_call : (c : Call) → IsTrue (is_bare_call c) → IsTrue (checks.is_step_name c.name) → IsTrue (is_among (checks.template_names ts) c.template) → IsTrue (is_built_call ts c)
   built_call c bare name known =
-      let t = has_template ts c.template in
-      let a = and_parts (is_empty c.arguments) (is_none c.when && is_none c.each && is_none c.exit) bare in
-      let b = and_parts (is_none c.when) (is_none c.each && is_none c.exit) a.1 in
-      let d = and_parts (is_none c.each) (is_none c.exit) b.1 in
-      and_from (is_step_name c.name) (is_empty c.arguments && is_none c.when && is_none c.each && is_none c.exit && t) (named_step c.name name)
-          (and_from (is_empty c.arguments) (is_none c.when && is_none c.each && is_none c.exit && t) a.0
-              (and_from (is_none c.when) (is_none c.each && is_none c.exit && t) b.0
-                  (and_from (is_none c.each) (is_none c.exit && t) d.0
-                      (and_from (is_none c.exit) t d.1 (has_named ts c.template known)))))
+      let step = is_step_name c.name in
+      let args = is_empty c.arguments in
+      let when = is_none c.when in
+      let each = is_none c.each in
+      let exit = is_none c.exit in
+      let p = and_parts (args && when && each) exit bare in
+      let q = and_parts (args && when) each p.0 in
+      let r = and_parts args when q.0 in
+      let front = and_from (step && args) when (and_from step args (named_step c.name name) r.0) r.1 in
+      let most = and_from (step && args && when && each) exit (and_from (step && args && when) each front q.1) p.1 in
+      and_from (step && args && when && each && exit) (has_template ts c.template) most (has_named ts c.template known)
 
   abbrev named : Call → Bool
   named c = checks.is_step_name c.name
@@ -269,8 +270,8 @@ module _ (ts : List Template) where
       let n2 = and_parts (list_all named cs) (list_all named (checks.calls_in gs)) (sym (list_all-append named cs (checks.calls_in gs)) ∙ n) in
       let k2 = and_parts (list_all known cs) (list_all known (checks.calls_in gs)) (sym (list_all-append known cs (checks.calls_in gs)) ∙ k) in
       and_from (is_built_group ts cs) (list_all (is_built_group ts) gs)
-          (and_from (is_short cs) (list_all (is_built_call ts) cs) s.0 (built_calls cs s.1 n2.0 k2.0))
-          (built_groups gs b2.1 n2.1 k2.1)
+      (and_from (is_short cs) (list_all (is_built_call ts) cs) s.0 (built_calls cs s.1 n2.0 k2.0))
+      (built_groups gs b2.1 n2.1 k2.1)
 
   built_body : (b : Body) → IsTrue (is_bare_body b) → IsTrue (list_all named (checks.calls_of b)) → IsTrue (list_all known (checks.calls_of b)) → IsTrue (is_built_body ts b)
   built_body body.Pod b n k = refl
@@ -282,18 +283,9 @@ module _ (ts : List Template) where
 
   built_template : (t : Template) → IsTrue (is_bare_template t) → IsTrue (checks.has_step_names t) → IsTrue (checks.calls_among (checks.template_names ts) t) → IsTrue (is_built_template ts t)
   built_template t b n k =
-      let body = is_bare_body t.body in
-      let built = is_built_body ts t.body in
-      let p1 = and_parts (is_empty t.inputs) (is_empty t.outputs && is_none t.lock && is_none t.memoize && is_none t.retry && body) b in
-      let p2 = and_parts (is_empty t.outputs) (is_none t.lock && is_none t.memoize && is_none t.retry && body) p1.1 in
-      let p3 = and_parts (is_none t.lock) (is_none t.memoize && is_none t.retry && body) p2.1 in
-      let p4 = and_parts (is_none t.memoize) (is_none t.retry && body) p3.1 in
-      let p5 = and_parts (is_none t.retry) body p4.1 in
-      and_from (is_empty t.inputs) (is_empty t.outputs && is_none t.lock && is_none t.memoize && is_none t.retry && built) p1.0
-          (and_from (is_empty t.outputs) (is_none t.lock && is_none t.memoize && is_none t.retry && built) p2.0
-              (and_from (is_none t.lock) (is_none t.memoize && is_none t.retry && built) p3.0
-                  (and_from (is_none t.memoize) (is_none t.retry && built) p4.0
-                      (and_from (is_none t.retry) built p5.0 (built_body t.body p5.1 n k)))))
+      let head = is_empty t.inputs && is_empty t.outputs && is_none t.lock && is_none t.memoize && is_none t.retry in
+      let p = and_parts head (is_bare_body t.body) b in
+      and_from head (is_built_body ts t.body) p.0 (built_body t.body p.1 n k)
 
   built_templates : (us : List Template) → IsTrue (list_all is_bare_template us) → IsTrue (list_all checks.has_step_names us) → IsTrue (list_all (checks.calls_among (checks.template_names ts)) us) → IsTrue (list_all (is_built_template ts) us)
   built_templates [] b n k = refl
@@ -308,14 +300,10 @@ built : (m : Manifest) → IsTrue (is_bare m) → Asked m → IsTrue (is_built m
 built m b h =
     let ts = m.templates in
     let all = list_all (is_built_template ts) ts in
-    let p1 = and_parts (is_none m.on_exit) (is_none m.lock && is_empty m.arguments && list_all is_bare_template ts) b in
-    let p2 = and_parts (is_none m.lock) (is_empty m.arguments && list_all is_bare_template ts) p1.1 in
-    let p3 = and_parts (is_empty m.arguments) (list_all is_bare_template ts) p2.1 in
+    let head = is_none m.on_exit && is_none m.lock && is_empty m.arguments in
     let entry = has_template ts m.entrypoint in
-    and_from (is_none m.on_exit) (is_none m.lock && is_empty m.arguments && entry && all) p1.0
-        (and_from (is_none m.lock) (is_empty m.arguments && entry && all) p2.0
-            (and_from (is_empty m.arguments) (entry && all) p3.0
-                (and_from entry all (has_entry ts m.entrypoint h.entry) (built_templates ts ts p3.1 h.names h.calls))))
+    let p = and_parts head (list_all is_bare_template ts) b in
+    and_from (head && entry) all (and_from head entry p.0 (has_entry ts m.entrypoint h.entry)) (built_templates ts ts p.1 h.names h.calls)
 
 -- ---- the law
 
@@ -334,7 +322,7 @@ built_by w o form e =
     let p = then_ok (plan [] o) (last m.0) form c.2 in
     let q = then_ok (outcomes_of p.0) (λ outcomes. Ok (form_made m.0 outcomes)) form p.2 in
     subst (λ f. IsTrue (is_built f.manifest)) (ok_is (form_made m.0 q.0) form q.2)
-        (built m.0 (workflow_made [] w m.0 m.1) (asked_of m.0 c.1))
+    (built m.0 (workflow_made [] w m.0 m.1) (asked_of m.0 c.1))
 
 built_in : (ds : Items) (form : Form) → form_in ds ≡ Ok form → IsTrue (is_built form.manifest)
 built_in no_items form e = absurd cc

@@ -1,5 +1,5 @@
 -- Documents of the first form: one workflow of steps and pods, and what is planned for its pods.
-use Rattle.std.specs.Prelude.{ℕ, List, [], ◌∷◌, Bool, true, false, ◌&&◌, if◌then◌else◌, Option, Some, None, Ok, Err, bytes_eq, codes}
+use Rattle.std.specs.Prelude.{ℕ, List, [], Bool, false, ◌&&◌, if◌then◌else◌, Option, Some, None, Ok, Err, bytes_eq, codes}
 use Rattle.serde_json.specs.Data.{Data, string, Items, no_items, item}
 use Rattle.serde_json.specs.Find.{get}
 use Rattle.json_fields.specs.Kinds as is

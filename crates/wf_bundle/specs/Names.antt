@@ -1,5 +1,5 @@
 -- Names in a list.
-use Rattle.std.specs.Prelude.{ℕ, List, [], ◌∷◌, ◌++◌, Bool, true, false, not, ◌&&◌, bytes_eq}
+use Rattle.std.specs.Prelude.{ℕ, List, [], ◌∷◌, ◌++◌, Bool, true, not, ◌&&◌, bytes_eq}
 use Rattle.std.specs.List.{list_any}
 
 abbrev pub is_among : List (List ℕ) → List ℕ → Bool

@@ -4,7 +4,7 @@ use Rattle.std.specs.Prelude.{ℕ, List, [], ◌∷◌, false, Option, Some, Non
 use Rattle.tree_types.specs.declared.phase.Phase.{Phase}
 use Rattle.tree_types.specs.declared.phase.Phase.TheVariants as phase
 use Rattle.tree_types.specs.Phases.{is_end}
-use Rattle.field_kinds.specs.Reading.{Read, ◌>>=◌, Kind}
+use Rattle.field_kinds.specs.Reading.{◌>>=◌, Kind}
 use Rattle.field_kinds.specs.Kinds.{text, of, object_of, all_of}
 use Rattle.field_kinds.specs.Fields.{required, default}
 use Rattle.wf_reader.specs.Members.{only}

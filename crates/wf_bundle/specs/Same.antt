@@ -14,5 +14,6 @@ module _ (a b x y : List ℕ) where
   pub fed_alike : IsTrue (bytes_eq a x && bytes_eq b y) → fed.str a ++ fed.str b ≡ fed.str x ++ fed.str y
   fed_alike h = λ i. fed.str (first_same h i) ++ fed.str (second_same h i)
 
-  pub same_tests : (v w : List ℕ) → IsTrue (bytes_eq a x && bytes_eq b y) → (bytes_eq a v && bytes_eq b w) ≡ (bytes_eq x v && bytes_eq y w)
+  pub same_tests : (v w : List ℕ)
+      → IsTrue (bytes_eq a x && bytes_eq b y) → (bytes_eq a v && bytes_eq b w) ≡ (bytes_eq x v && bytes_eq y w)
   same_tests v w h = λ i. bytes_eq (first_same h i) v && bytes_eq (second_same h i) w

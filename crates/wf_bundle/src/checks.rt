@@ -12,7 +12,7 @@ use crate::rules::{BAD_NAME, DOUBLE_NAME, NO_TEMPLATE, TAG_IN_NAME, asked};
 use base_types::{Memory, Text};
 use field_kinds::KindRefused;
 use std::alloc::Global;
-use wf_manifest::{Body, Call, Manifest, Template};
+use wf_manifest::{Body, Call, Group, Manifest, Template};
 use wf_reader::NOT_BUILT;
 
 // ---- what a manifest has
@@ -23,15 +23,24 @@ fn calls_of<'a>(alloc: Global, body: &'a Body) -> Result<Vec<&'a Call>, Memory>
 {
     let mut calls = Vec::new(alloc);
     if let Body::Steps(groups) = body {
-        for i in 0..groups.len() {
-            add_calls(&mut calls, groups.get(i).as_slice())?;
-        }
+        add_groups(&mut calls, groups.as_slice())?;
     }
     Ok(calls)
 }
 
+fn add_groups<'a>(calls: &mut Vec<&'a Call>, groups: &'a [Group]) -> Result<(), Memory>
+    ensures { OnOk result (map (λ call. call.now) calls.new.items
+        ≡ map (λ call. call.now) calls.old.items ++ checks.calls_in groups.entry.now) }
+{
+    for i in 0..groups.len() {
+        add_calls(calls, groups[i].as_slice())?;
+    }
+    Ok(())
+}
+
 fn add_calls<'a>(calls: &mut Vec<&'a Call>, group: &'a [Call]) -> Result<(), Memory>
-    ensures { OnOk result (map (λ call. call.now) calls.new.items ≡ map (λ call. call.now) calls.old.items ++ group.entry.now) }
+    ensures { OnOk result (map (λ call. call.now) calls.new.items
+        ≡ map (λ call. call.now) calls.old.items ++ group.entry.now) }
 {
     for i in 0..group.len() {
         calls.push(&group[i])?;

@@ -4,6 +4,7 @@ ghost use Rattle.std.specs.Prelude.{◌≡◌, [], codes, IfOk};
 ghost use Rattle.serde_json.specs.View.{view, items_view};
 ghost use Rattle.field_kinds.specs.Refusing.{Reads, Shows};
 ghost use Rattle.field_kinds.specs.Fields.{required};
+ghost use Rattle.wf_bundle.specs.Checks.{not_built};
 ghost use Rattle.wf_bundle.specs.Forms as forms;
 
 use crate::checks::checked;
@@ -74,17 +75,26 @@ fn form_in(alloc: Global, items: &[Value]) -> Result<Form, KindRefused>
     ensures { Reads result (forms.form_in (items_view items.now)) }
 {
     match items {
+        [] => Err(not_of_form(alloc)),
+        [_] => Err(not_of_form(alloc)),
         [workflow, outcomes] => form_by(alloc, workflow, outcomes),
-        _ => Err(KindRefused::Rule {
-            rule: NOT_BUILT,
-            field: FieldPath::root(alloc),
-        }),
+        [_, _, _, ..] => Err(not_of_form(alloc)),
+    }
+}
+
+fn not_of_form(alloc: Global) -> KindRefused
+    ensures { result ≡ KindRefused.Rule not_built [] }
+{
+    KindRefused::Rule {
+        rule: NOT_BUILT,
+        field: FieldPath::root(alloc),
     }
 }
 
 /// The items of a list, whose other members are not read.
 fn items_of<'a>(alloc: Global, list: &'a Value) -> Result<&'a [Value], KindRefused>
-    ensures { Shows (λ items. items_view items.now) result (required forms.items (codes "items") [] (view list.entry.now)) }
+    ensures { Shows (λ items. items_view items.now) result
+        (required forms.items (codes "items") [] (view list.entry.now)) }
 {
     let path = FieldPath::root(alloc).field("items")?;
     match list.get("items") {

@@ -50,7 +50,8 @@ impl<'a> Model for NameSet<'a> {
 
     ghost view = { λ known. map (λ name. name.now) known.names.items };
 
-    ghost invariant = { λ known. (name : Seq ℕ) → contains bytes_eq known.set name ≡ is_among (map (λ name. name.now) known.names.items) name };
+    ghost invariant = { λ known. (name : Seq ℕ)
+        → contains bytes_eq known.set name ≡ is_among (map (λ name. name.now) known.names.items) name };
 }
 
 impl<'a> NameSet<'a> {

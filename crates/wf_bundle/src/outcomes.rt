@@ -143,7 +143,8 @@ impl Outcomes {
 /// Adds a pod, unless it is there.
 fn add(pods: &mut IndexMap<PodName, PlannedOutcome>, pod: PlannedPod) -> Result<bool, Memory>
     ensures told { IfOk result (λ added. added ≡ not (list_any (is_same_pod pod) (pods_of pods.old.entries))) }
-    ensures kept { IfOk result (λ added. IsTrue added → pods_of pods.new.entries ≡ pods_of pods.old.entries ++ pod ∷ []) }
+    ensures kept { IfOk result (λ added. IsTrue added
+        → pods_of pods.new.entries ≡ pods_of pods.old.entries ++ pod ∷ []) }
 {
     let name = PodName {
         workflow: pod.workflow,

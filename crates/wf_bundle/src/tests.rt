@@ -4,7 +4,8 @@ use serde_json::Value;
 use std::test::Fail;
 use tree_types::Phase;
 
-const STEPS: &str = r#"{"apiVersion":"v1","kind":"List","items":[{"apiVersion":"argoproj.io/v1alpha1","kind":"Workflow","metadata":{"name":"wf"},"spec":{"entrypoint":"main","templates":[{"name":"main","steps":[[{"name":"a","template":"c"}],[{"name":"b","template":"c"},{"name":"c","template":"c"}]]},{"name":"c","container":{"image":"i"}}]}},{"kind":"PodOutcomes","default":{"phase":"Succeeded"},"pods":[{"workflow":"wf","node":"wf[1].b","phase":"Failed"}]}]}"#;
+const STEPS: &str =
+    r#"{"apiVersion":"v1","kind":"List","items":[{"apiVersion":"argoproj.io/v1alpha1","kind":"Workflow","metadata":{"name":"wf"},"spec":{"entrypoint":"main","templates":[{"name":"main","steps":[[{"name":"a","template":"c"}],[{"name":"b","template":"c"},{"name":"c","template":"c"}]]},{"name":"c","container":{"image":"i"}}]}},{"kind":"PodOutcomes","default":{"phase":"Succeeded"},"pods":[{"workflow":"wf","node":"wf[1].b","phase":"Failed"}]}]}"#;
 
 fn read(rt: &HostRuntime, text: &str) -> Result<Option<Form>, Fail> {
     let alloc = rt.alloc();
@@ -37,10 +38,13 @@ fn reads_a_document_and_its_outcomes(rt: HostRuntime) -> Result<(), Fail> {
 
 /// A document of one workflow with these metadata and templates, and with these pods.
 fn document(rt: &HostRuntime, metadata: &str, templates: &str, pods: &str) -> Result<String, Fail> {
-    Ok(format!(in rt.alloc(); "{{\"kind\":\"List\",\"items\":[{{\"apiVersion\":\"argoproj.io/v1alpha1\",\"kind\":\"Workflow\",\"metadata\":{metadata},\"spec\":{{\"entrypoint\":\"main\",\"templates\":[{templates}]}}}},{{\"kind\":\"PodOutcomes\",\"default\":{{\"phase\":\"Error\"}},\"pods\":[{pods}]}}]}}")?)
+    Ok(format!(in rt.alloc();
+        "{{\"kind\":\"List\",\"items\":[{{\"apiVersion\":\"argoproj.io/v1alpha1\",\"kind\":\"Workflow\",\"metadata\":{metadata},\"spec\":{{\"entrypoint\":\"main\",\"templates\":[{templates}]}}}},{{\"kind\":\"PodOutcomes\",\"default\":{{\"phase\":\"Error\"}},\"pods\":[{pods}]}}]}}"
+    )?)
 }
 
-const MAIN: &str = r#"{"name":"main","steps":[[{"name":"a","template":"c"}]]},{"name":"c","container":{}}"#;
+const MAIN: &str =
+    r#"{"name":"main","steps":[[{"name":"a","template":"c"}]]},{"name":"c","container":{}}"#;
 
 #[test]
 fn takes_documents_of_the_form_alone(rt: HostRuntime) -> Result<(), Fail> {
@@ -49,18 +53,78 @@ fn takes_documents_of_the_form_alone(rt: HostRuntime) -> Result<(), Fail> {
         (r#"{"name":"w"}"#, MAIN, pod, true),
         (r#"{"name":"W"}"#, MAIN, pod, false),
         (r#"{"name":"w","labels":{}}"#, MAIN, pod, false),
-        (r#"{"name":"w"}"#, r#"{"name":"main","steps":[],"container":{}}"#, pod, false),
-        (r#"{"name":"w"}"#, r#"{"name":"main","steps":[[{"name":"a","template":"c"}]]}"#, pod, false),
-        (r#"{"name":"w"}"#, r#"{"name":"main","steps":[[{"name":"a","template":"main"}]]}"#, pod, false),
-        (r#"{"name":"w"}"#, r#"{"name":"main","steps":[[{"name":"a.b","template":"c"}]]},{"name":"c","container":{}}"#, pod, false),
-        (r#"{"name":"w"}"#, r#"{"name":"main","steps":[[{"name":"hooks","template":"c"}]]},{"name":"c","container":{}}"#, pod, false),
-        (r#"{"name":"w"}"#, r#"{"name":"main","steps":[[{"name":"a","template":"c"}],[{"name":"a","template":"c"}]]},{"name":"c","container":{}}"#, pod, false),
-        (r#"{"name":"w"}"#, r#"{"name":"main","steps":[]},{"name":"c","container":{}},{"name":"c","container":{}}"#, pod, false),
-        (r#"{"name":"w"}"#, r#"{"name":"main","steps":[]},{"name":"{{c}}","container":{}}"#, pod, false),
-        (r#"{"name":"w"}"#, r#"{"name":"main","container":{}}"#, pod, false),
-        (r#"{"name":"w"}"#, MAIN, r#"{"workflow":"w","node":"n","phase":"Skipped"}"#, false),
-        (r#"{"name":"w"}"#, MAIN, r#"{"workflow":"w","node":"n","phase":"Failed"},{"workflow":"w","node":"n","phase":"Error"}"#, false),
-        (r#"{"name":"w"}"#, MAIN, r#"{"workflow":"w","node":"n","phase":"Failed"},{"workflow":"v","node":"n","phase":"Error"}"#, true),
+        (
+            r#"{"name":"w"}"#,
+            r#"{"name":"main","steps":[],"container":{}}"#,
+            pod,
+            false,
+        ),
+        (
+            r#"{"name":"w"}"#,
+            r#"{"name":"main","steps":[[{"name":"a","template":"c"}]]}"#,
+            pod,
+            false,
+        ),
+        (
+            r#"{"name":"w"}"#,
+            r#"{"name":"main","steps":[[{"name":"a","template":"main"}]]}"#,
+            pod,
+            false,
+        ),
+        (
+            r#"{"name":"w"}"#,
+            r#"{"name":"main","steps":[[{"name":"a.b","template":"c"}]]},{"name":"c","container":{}}"#,
+            pod,
+            false,
+        ),
+        (
+            r#"{"name":"w"}"#,
+            r#"{"name":"main","steps":[[{"name":"hooks","template":"c"}]]},{"name":"c","container":{}}"#,
+            pod,
+            false,
+        ),
+        (
+            r#"{"name":"w"}"#,
+            r#"{"name":"main","steps":[[{"name":"a","template":"c"}],[{"name":"a","template":"c"}]]},{"name":"c","container":{}}"#,
+            pod,
+            false,
+        ),
+        (
+            r#"{"name":"w"}"#,
+            r#"{"name":"main","steps":[]},{"name":"c","container":{}},{"name":"c","container":{}}"#,
+            pod,
+            false,
+        ),
+        (
+            r#"{"name":"w"}"#,
+            r#"{"name":"main","steps":[]},{"name":"{{c}}","container":{}}"#,
+            pod,
+            false,
+        ),
+        (
+            r#"{"name":"w"}"#,
+            r#"{"name":"main","container":{}}"#,
+            pod,
+            false,
+        ),
+        (
+            r#"{"name":"w"}"#,
+            MAIN,
+            r#"{"workflow":"w","node":"n","phase":"Skipped"}"#,
+            false,
+        ),
+        (
+            r#"{"name":"w"}"#,
+            MAIN,
+            r#"{"workflow":"w","node":"n","phase":"Failed"},{"workflow":"w","node":"n","phase":"Error"}"#,
+            false,
+        ),
+        (
+            r#"{"name":"w"}"#,
+            MAIN,
+            r#"{"workflow":"w","node":"n","phase":"Failed"},{"workflow":"v","node":"n","phase":"Error"}"#,
+            true,
+        ),
     ] {
         let text = document(&rt, metadata, templates, pods)?;
         assert_eq!(rt; read(&rt, text.as_str())?.is_some(), taken);

@@ -7,7 +7,7 @@ use Rattle.wf_manifest.specs.declared.templates.Body.{Body}
 use Rattle.wf_manifest.specs.declared.templates.Body.TheVariants as body
 use Rattle.wf_manifest.specs.declared.templates.Template.{Template}
 use Rattle.wf_manifest.specs.declared.manifest.Manifest.{Manifest}
-use Rattle.field_kinds.specs.Reading.{Read, ◌>>=◌, Kind, refuse_by}
+use Rattle.field_kinds.specs.Reading.{◌>>=◌, Kind, refuse_by}
 use Rattle.field_kinds.specs.Kinds.{text, of, json_object, object_of, list_of}
 use Rattle.field_kinds.specs.Fields.{optional, required, has, no_second}
 use Rattle.wf_reader.specs.declared.bodies.BodyKind.{BodyKind}
@@ -40,6 +40,9 @@ step_fields at d = do
 abbrev pub group : Kind (List Call)
 group = list_of most_members (object_of step_fields)
 
+abbrev pub groups : Kind (List (List Call))
+groups = list_of most_members group
+
 -- ---- templates (field reference, `Template`)
 
 -- the body that a template has, the first in this order
@@ -52,7 +55,7 @@ first_body d =
 abbrev pub body_by : Option BodyKind → Kind Body
 body_by None at d = refuse_by 2 at
 body_by (Some kind.Container) at d = optional json_object (codes "container") at d >>= λ _. Ok body.Pod
-body_by (Some kind.Steps) at d = required (list_of most_members group) (codes "steps") at d >>= λ groups. Ok (body.Steps groups)
+body_by (Some kind.Steps) at d = required groups (codes "steps") at d >>= λ read. Ok (body.Steps read)
 
 abbrev pub is_container : Option BodyKind → Bool
 is_container (Some kind.Container) = true

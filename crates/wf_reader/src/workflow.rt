@@ -116,8 +116,8 @@ fn workflow_fields(alloc: Global, value: &Value, at: &FieldPath) -> Result<Manif
     Ok(manifest_of(alloc, name, spec)?)
 }
 
-/// The manifest of a workflow, as it stands at a path of the document. What `apiVersion` and `kind` must be is not asked
-/// here.
+/// The manifest of a workflow, as it stands at a path of the document. What `apiVersion` and `kind` must be is not
+/// asked here.
 pub fn read_workflow(alloc: Global, value: &Value, at: &FieldPath) -> Result<Manifest, KindRefused>
     ensures { Reads result (reads.workflow at.now (view value.now)) }
 {

@@ -1,0 +1,13 @@
+use Rattle.std.proofs.Common.{◌≡◌, Some, sym, ap, ◌∙◌}
+use Rattle.serde_json.specs.Find.{as_object}
+use Rattle.serde_json.specs.View.{view, members_view}
+use Rattle.fanout.specs.Items.{is_whole}
+use Rattle.fanout.proofs.Naming.{whole_members}
+use Rattle.fanout.proofs.tags.add_item_tags.Goals as goal
+
+pub add_members-requires : goal.add_members-requires
+add_members-requires c =
+    let value = c.value.result.now in
+    let members = members_view c.in-Some.members.now.entries in
+    let here : as_object (view value) ≡ Some members = sym c.in-Some.ensures in
+    whole_members (view value) members here (ap is_whole c.value.ensures ∙ c.requires)
