@@ -9,6 +9,8 @@ mod recorded;
 mod refused;
 mod tally;
 mod templates;
+#[cfg(test)]
+mod tests;
 mod walk;
 mod whole;
 
