@@ -60,7 +60,9 @@ IsOfWhole NotBuilt = Unit {0}
 IsOfWhole _ = ⊥
 
 -- Why a run with these words ended so: what its source had left before and after, and how many of its reads failed.
-pub record Came (meant : Data → Answered) (words : List (List ℕ)) (left left' : Option (List ℕ)) (faults faults' : ℕ) (end : End) : Type 0 where
+pub record Came
+    (meant : Data → Answered) (words : List (List ℕ)) (left left' : Option (List ℕ)) (faults faults' : ℕ) (end : End)
+    : Type 0 where
   pub consumed : Consumes left left' end.input
   pub whole : IsOfWhole end.status → IsAtEnd left'
   pub usage : (end.status ≡ Usage) ↔ (¬ IsCommand words)
