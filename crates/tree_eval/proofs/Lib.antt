@@ -9,3 +9,4 @@ pub mod Index
 pub mod Ends
 pub mod Begun
 pub mod Kept
+pub mod Lent

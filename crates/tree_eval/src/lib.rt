@@ -2,6 +2,7 @@
 #![tactic(auto)]
 
 mod built;
+mod ended;
 mod growth;
 mod journal;
 mod nodes;
@@ -15,7 +16,8 @@ mod walk;
 mod whole;
 
 pub use built::is_built;
+pub use ended::Ended;
 pub use journal::JournalIndex;
-pub use recorded::{Ended, Recorded};
+pub use recorded::Recorded;
 pub use refused::TreeRefused;
 pub use whole::{Evaluated, evaluate, tree};

@@ -10,7 +10,7 @@ use Rattle.io_edge.specs.Transfer.{StoppedAt}
 use Rattle.wf_program.specs.declared.mode.Answered.{Answered}
 use Rattle.wf_program.specs.declared.mode.Answered.TheVariants as answered
 use Rattle.wf_program.specs.declared.status.Status.{Status}
-use Rattle.wf_program.specs.declared.status.Status.TheVariants.{Done, Usage, ReadFault, WriteFault, NotJson, TooLong, NotBuilt}
+use Rattle.wf_program.specs.declared.status.Status.TheVariants.{Done, Usage, ReadFault, WriteFault, NotJson, TooLarge, TooLong, NotBuilt}
 use Rattle.wf_program.specs.Statuses.{status_text}
 
 -- the longest input, in bytes
@@ -42,20 +42,23 @@ pub record End : Type 0 where
 -- what an end says of the input, by what a value's data means
 abbrev pub Judged : (Data → Answered) → List ℕ → Status → List ℕ → Type 0
 Judged meant input Done text = (value : Data) × Reads input value × (meant value ≡ answered.Done text)
+Judged meant input TooLarge text = (value : Data) × Reads input value × (meant value ≡ answered.TooLarge text)
 Judged meant input NotBuilt text = (value : Data) × Reads input value × (meant value ≡ answered.NotBuilt)
 Judged meant input NotJson text = ReadsNone input
 Judged meant input WriteFault text = ⊥
 Judged meant input _ text = Unit {0}
 
--- the text of an end; that of Done follows from the input
+-- the text of an end; those of Done and TooLarge follow from the input
 abbrev pub Says : Status → ℕ → List ℕ → Type 0
 Says Done count text = Unit {0}
+Says TooLarge count text = Unit {0}
 Says status count text = text ≡ status_text status count
 
 -- an end that speaks of the whole input
 abbrev pub IsOfWhole : Status → Type 0
 IsOfWhole Done = Unit {0}
 IsOfWhole NotJson = Unit {0}
+IsOfWhole TooLarge = Unit {0}
 IsOfWhole NotBuilt = Unit {0}
 IsOfWhole _ = ⊥
 

@@ -34,6 +34,10 @@ pub(crate) fn judge<M: Mode>(alloc: Global, mode: &M, input: &[u8]) -> Result<Ma
             status: Status::Done,
             text,
         }),
+        Answered::TooLarge(text) => Ok(Made {
+            status: Status::TooLarge,
+            text,
+        }),
         Answered::NotBuilt => Err(Status::NotBuilt),
     }
 }

@@ -11,15 +11,17 @@ use std::alloc::Global;
 
 /// What is answered to a JSON value.
 #[derive(Drop)]
-pub enum Answered {
+pub(crate) enum Answered {
     /// The text to write.
     Done(Bytes),
     /// The value has a form that is not built yet.
     NotBuilt,
+    /// The tree has too many nodes to be printed; the text to write says so.
+    TooLarge(Bytes),
 }
 
 /// The work on a JSON value.
-pub trait Mode {
+pub(crate) trait Mode {
     /// What is to be answered to a value of these data.
     ghost meant: { Self → Data → Answered };
 

@@ -13,10 +13,16 @@ pub enum Status {
     Done,
     /// The words are no command.
     Usage,
+    /// A read of the source failed.
     ReadFault,
+    /// A write to the sink failed.
     WriteFault,
+    /// The input is no JSON value.
     NotJson,
+    /// The tree has more than 10,000 nodes.
+    TooLarge,
     Memory,
+    /// The input has more than 16,777,216 bytes.
     TooLong,
     /// The input has a form that is not built yet.
     NotBuilt,
@@ -33,6 +39,7 @@ impl Status {
             Status::ReadFault => 3,
             Status::WriteFault => 4,
             Status::NotJson => 5,
+            Status::TooLarge => 8,
             Status::Memory => 9,
             Status::TooLong => 10,
             Status::NotBuilt => 20,
@@ -44,7 +51,7 @@ impl Status {
         ensures { result.now ≡ fixed_text self }
     {
         match self {
-            Status::Done | Status::WriteFault | Status::NotJson => b"",
+            Status::Done | Status::WriteFault | Status::NotJson | Status::TooLarge => b"",
             Status::Usage => b"argo: usage: argo run/simulate/check/generate [options]\n",
             Status::ReadFault => b"argo: read fault\n",
             Status::Memory => b"argo: out of memory\n",

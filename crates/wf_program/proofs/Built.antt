@@ -1,6 +1,6 @@
--- A document of the form says a manifest of the forms that trees are computed for, by the test that the evaluator's crate has
--- for them. That crate does not stand below this one, so the test is written here again, word by word.
-use Rattle.std.proofs.Common.{◌≡◌, ℕ, List, [], ◌∷◌, length, Bool, true, false, not, ◌&&◌, ◌||◌, nat_lt, nat_le, Option, Some, None, Ok, refl, sym, subst, ◌∙◌}
+-- The manifest of a document of the first form is of the forms that trees are computed for: what a reader reads has nothing
+-- else, and what is checked has names and templates.
+use Rattle.std.proofs.Common.{◌≡◌, ℕ, List, [], ◌∷◌, length, Bool, true, false, not, ◌&&◌, ◌||◌, nat_lt, nat_le, Option, Some, None, Ok, Err, refl, sym, ap, subst, ◌∙◌}
 use Rattle.std.specs.Prelude.{IsTrue, is_some, is_none, bytes_eq, codes}
 use Rattle.std.specs.List.{AllByRecursion, list_all, list_any, find}
 use Rattle.std.specs.Cmp.Lexicographic.{bytes_decides}
@@ -27,40 +27,8 @@ use Rattle.wf_bundle.specs.declared.form.Form.{Form}
 use Rattle.wf_bundle.specs.Names.{is_among, all_differ}
 use Rattle.wf_bundle.specs.PodOutcomes.{plan}
 use Rattle.wf_bundle.specs.Checks as checks
-use Rattle.wf_bundle.specs.Forms.{items, is_list, is_workflow, is_outcomes, unknown_kind, outcomes_of, form_by, form_in, form_of}
-
--- ---- the test of the evaluator's crate
-
-abbrev pub is_empty : {A : Type 0} → List A → Bool
-is_empty xs = nat_le (length xs) 0
-
-abbrev pub is_short : {A : Type 0} → List A → Bool
-is_short xs = nat_le (length xs) 1000
-
-abbrev pub is_step_name : List ℕ → Bool
-is_step_name name = list_all is_name_byte name && nat_lt 0 (length name) && nat_le (length name) 128 && not (bytes_eq name (codes "onExit"))
-
-abbrev pub has_template : List Template → List ℕ → Bool
-has_template ts name = is_some (find (λ t. bytes_eq t.name name) ts)
-
-module _ (ts : List Template) where
-  abbrev pub is_built_call : Call → Bool
-  is_built_call c = is_step_name c.name && is_empty c.arguments && is_none c.when && is_none c.each && is_none c.exit && has_template ts c.template
-
-  abbrev pub is_built_group : List Call → Bool
-  is_built_group cs = is_short cs && list_all is_built_call cs
-
-  abbrev pub is_built_body : Body → Bool
-  is_built_body body.Pod = true
-  is_built_body (body.Steps gs) = is_short gs && list_all is_built_group gs
-  is_built_body (body.Dag d) = false
-  is_built_body (body.Suspend duration) = false
-
-  abbrev pub is_built_template : Template → Bool
-  is_built_template t = is_empty t.inputs && is_empty t.outputs && is_none t.lock && is_none t.memoize && is_none t.retry && is_built_body t.body
-
-abbrev pub is_built : Manifest → Bool
-is_built m = is_none m.on_exit && is_none m.lock && is_empty m.arguments && has_template m.templates m.entrypoint && list_all (is_built_template m.templates) m.templates
+use Rattle.wf_bundle.specs.Forms.{items, is_list, is_workflow, is_outcomes, unknown_kind, outcomes_of, form_by, form_in, form_of, accepted}
+use Rattle.tree_eval.specs.Built.{IsBuilt, is_empty, is_short, is_step_name, has_template, is_built_call, is_built_group, is_built_body, is_built_template}
 
 -- ---- what is read has nothing else
 
@@ -193,10 +161,13 @@ asked_of m e =
 
 -- ---- the tests of the evaluator
 
+abbrev is_there : List Template → List ℕ → Bool
+is_there ts name = is_some (find (λ t. bytes_eq t.name name) ts)
+
 same_texts : (a b : List ℕ) → IsTrue (bytes_eq a b) → IsTrue (bytes_eq b a)
 same_texts a b h = (bytes_decides b a).1 (sym ((bytes_decides a b).0 h))
 
-found_by : (ts : List Template) (t : Template) (name : List ℕ) (is : Bool) → bytes_eq t.name name ≡ is → IsTrue (bytes_eq name t.name || is_among (checks.template_names ts) name) → ((h : IsTrue (is_among (checks.template_names ts) name)) → IsTrue (has_template ts name)) → IsTrue (has_template (t ∷ ts) name)
+found_by : (ts : List Template) (t : Template) (name : List ℕ) (is : Bool) → bytes_eq t.name name ≡ is → IsTrue (bytes_eq name t.name || is_among (checks.template_names ts) name) → ((h : IsTrue (is_among (checks.template_names ts) name)) → IsTrue (is_there ts name)) → IsTrue (is_there (t ∷ ts) name)
 found_by ts t name true is h more = rw is refl
 found_by ts t name false is h more = rw is (more (subst (λ b. IsTrue (b || is_among (checks.template_names ts) name)) (other (bytes_eq name t.name) refl) h))
   where
@@ -207,15 +178,15 @@ found_by ts t name false is h more = rw is (more (subst (λ b. IsTrue (b || is_a
         apart x = absurd cc
     other false e = e
 
-has_named : (ts : List Template) (name : List ℕ) → IsTrue (is_among (checks.template_names ts) name) → IsTrue (has_template ts name)
+has_named : (ts : List Template) (name : List ℕ) → IsTrue (is_among (checks.template_names ts) name) → IsTrue (is_there ts name)
 has_named [] name h = absurd cc
 has_named (t ∷ ts) name h = found_by ts t name (bytes_eq t.name name) refl h (has_named ts name)
 
-entry_by : (ts : List Template) (t : Template) (name : List ℕ) (is : Bool) → bytes_eq t.name name ≡ is → IsTrue ((is && checks.is_steps t.body) || list_any (checks.is_steps_named name) ts) → ((h : IsTrue (list_any (checks.is_steps_named name) ts)) → IsTrue (has_template ts name)) → IsTrue (has_template (t ∷ ts) name)
+entry_by : (ts : List Template) (t : Template) (name : List ℕ) (is : Bool) → bytes_eq t.name name ≡ is → IsTrue ((is && checks.is_steps t.body) || list_any (checks.is_steps_named name) ts) → ((h : IsTrue (list_any (checks.is_steps_named name) ts)) → IsTrue (is_there ts name)) → IsTrue (is_there (t ∷ ts) name)
 entry_by ts t name true is h more = rw is refl
 entry_by ts t name false is h more = rw is (more h)
 
-has_entry : (ts : List Template) (name : List ℕ) → IsTrue (list_any (checks.is_steps_named name) ts) → IsTrue (has_template ts name)
+has_entry : (ts : List Template) (name : List ℕ) → IsTrue (list_any (checks.is_steps_named name) ts) → IsTrue (is_there ts name)
 has_entry [] name h = absurd cc
 has_entry (t ∷ ts) name h = entry_by ts t name (bytes_eq t.name name) refl h (has_entry ts name)
 
@@ -233,8 +204,8 @@ named_step name h =
     let l = and_parts some short r.0 in
     and_from (bytes && some && short) other (and_from (bytes && some) short (and_from bytes some r.1 l.0) l.1) q.1
 
-module _ (ts : List Template) where
-  built_call : (c : Call) → IsTrue (is_bare_call c) → IsTrue (checks.is_step_name c.name) → IsTrue (is_among (checks.template_names ts) c.template) → IsTrue (is_built_call ts c)
+module _ (m : Manifest) where
+  built_call : (c : Call) → IsTrue (is_bare_call c) → IsTrue (checks.is_step_name c.name) → IsTrue (is_among (checks.template_names m.templates) c.template) → IsTrue (is_built_call m c)
   built_call c bare name known =
       let step = is_step_name c.name in
       let args = is_empty c.arguments in
@@ -246,71 +217,71 @@ module _ (ts : List Template) where
       let r = and_parts args when q.0 in
       let front = and_from (step && args) when (and_from step args (named_step c.name name) r.0) r.1 in
       let most = and_from (step && args && when && each) exit (and_from (step && args && when) each front q.1) p.1 in
-      and_from (step && args && when && each && exit) (has_template ts c.template) most (has_named ts c.template known)
+      and_from (step && args && when && each && exit) (has_template m c.template) most (has_named m.templates c.template known)
 
   abbrev named : Call → Bool
   named c = checks.is_step_name c.name
 
   abbrev known : Call → Bool
-  known c = is_among (checks.template_names ts) c.template
+  known c = is_among (checks.template_names m.templates) c.template
 
-  built_calls : (cs : List Call) → IsTrue (list_all is_bare_call cs) → IsTrue (list_all named cs) → IsTrue (list_all known cs) → IsTrue (list_all (is_built_call ts) cs)
+  built_calls : (cs : List Call) → IsTrue (list_all is_bare_call cs) → IsTrue (list_all named cs) → IsTrue (list_all known cs) → IsTrue (list_all (is_built_call m) cs)
   built_calls [] b n k = refl
   built_calls (c ∷ cs) b n k =
       let b2 = and_parts (is_bare_call c) (list_all is_bare_call cs) b in
       let n2 = and_parts (named c) (list_all named cs) n in
       let k2 = and_parts (known c) (list_all known cs) k in
-      and_from (is_built_call ts c) (list_all (is_built_call ts) cs) (built_call c b2.0 n2.0 k2.0) (built_calls cs b2.1 n2.1 k2.1)
+      and_from (is_built_call m c) (list_all (is_built_call m) cs) (built_call c b2.0 n2.0 k2.0) (built_calls cs b2.1 n2.1 k2.1)
 
-  built_groups : (gs : List (List Call)) → IsTrue (list_all is_bare_group gs) → IsTrue (list_all named (checks.calls_in gs)) → IsTrue (list_all known (checks.calls_in gs)) → IsTrue (list_all (is_built_group ts) gs)
+  built_groups : (gs : List (List Call)) → IsTrue (list_all is_bare_group gs) → IsTrue (list_all named (checks.calls_in gs)) → IsTrue (list_all known (checks.calls_in gs)) → IsTrue (list_all (is_built_group m) gs)
   built_groups [] b n k = refl
   built_groups (cs ∷ gs) b n k =
       let b2 = and_parts (is_bare_group cs) (list_all is_bare_group gs) b in
       let s = and_parts (is_short cs) (list_all is_bare_call cs) b2.0 in
       let n2 = and_parts (list_all named cs) (list_all named (checks.calls_in gs)) (sym (list_all-append named cs (checks.calls_in gs)) ∙ n) in
       let k2 = and_parts (list_all known cs) (list_all known (checks.calls_in gs)) (sym (list_all-append known cs (checks.calls_in gs)) ∙ k) in
-      and_from (is_built_group ts cs) (list_all (is_built_group ts) gs)
-      (and_from (is_short cs) (list_all (is_built_call ts) cs) s.0 (built_calls cs s.1 n2.0 k2.0))
+      and_from (is_built_group m cs) (list_all (is_built_group m) gs)
+      (and_from (is_short cs) (list_all (is_built_call m) cs) s.0 (built_calls cs s.1 n2.0 k2.0))
       (built_groups gs b2.1 n2.1 k2.1)
 
-  built_body : (b : Body) → IsTrue (is_bare_body b) → IsTrue (list_all named (checks.calls_of b)) → IsTrue (list_all known (checks.calls_of b)) → IsTrue (is_built_body ts b)
+  built_body : (b : Body) → IsTrue (is_bare_body b) → IsTrue (list_all named (checks.calls_of b)) → IsTrue (list_all known (checks.calls_of b)) → IsTrue (is_built_body m b)
   built_body body.Pod b n k = refl
   built_body (body.Steps gs) b n k =
       let s = and_parts (is_short gs) (list_all is_bare_group gs) b in
-      and_from (is_short gs) (list_all (is_built_group ts) gs) s.0 (built_groups gs s.1 n k)
+      and_from (is_short gs) (list_all (is_built_group m) gs) s.0 (built_groups gs s.1 n k)
   built_body (body.Dag d) b n k = b
   built_body (body.Suspend duration) b n k = b
 
-  built_template : (t : Template) → IsTrue (is_bare_template t) → IsTrue (checks.has_step_names t) → IsTrue (checks.calls_among (checks.template_names ts) t) → IsTrue (is_built_template ts t)
+  built_template : (t : Template) → IsTrue (is_bare_template t) → IsTrue (checks.has_step_names t) → IsTrue (checks.calls_among (checks.template_names m.templates) t) → IsTrue (is_built_template m t)
   built_template t b n k =
       let head = is_empty t.inputs && is_empty t.outputs && is_none t.lock && is_none t.memoize && is_none t.retry in
       let p = and_parts head (is_bare_body t.body) b in
-      and_from head (is_built_body ts t.body) p.0 (built_body t.body p.1 n k)
+      and_from head (is_built_body m t.body) p.0 (built_body t.body p.1 n k)
 
-  built_templates : (us : List Template) → IsTrue (list_all is_bare_template us) → IsTrue (list_all checks.has_step_names us) → IsTrue (list_all (checks.calls_among (checks.template_names ts)) us) → IsTrue (list_all (is_built_template ts) us)
+  built_templates : (us : List Template) → IsTrue (list_all is_bare_template us) → IsTrue (list_all checks.has_step_names us) → IsTrue (list_all (checks.calls_among (checks.template_names m.templates)) us) → IsTrue (list_all (is_built_template m) us)
   built_templates [] b n k = refl
   built_templates (u ∷ us) b n k =
-      let among = checks.calls_among (checks.template_names ts) in
+      let among = checks.calls_among (checks.template_names m.templates) in
       let b2 = and_parts (is_bare_template u) (list_all is_bare_template us) b in
       let n2 = and_parts (checks.has_step_names u) (list_all checks.has_step_names us) n in
       let k2 = and_parts (among u) (list_all among us) k in
-      and_from (is_built_template ts u) (list_all (is_built_template ts) us) (built_template u b2.0 n2.0 k2.0) (built_templates us b2.1 n2.1 k2.1)
+      and_from (is_built_template m u) (list_all (is_built_template m) us) (built_template u b2.0 n2.0 k2.0) (built_templates us b2.1 n2.1 k2.1)
 
-built : (m : Manifest) → IsTrue (is_bare m) → Asked m → IsTrue (is_built m)
+built : (m : Manifest) → IsTrue (is_bare m) → Asked m → IsBuilt m
 built m b h =
     let ts = m.templates in
-    let all = list_all (is_built_template ts) ts in
+    let all = list_all (is_built_template m) ts in
     let head = is_none m.on_exit && is_none m.lock && is_empty m.arguments in
-    let entry = has_template ts m.entrypoint in
+    let entry = has_template m m.entrypoint in
     let p = and_parts head (list_all is_bare_template ts) b in
-    and_from (head && entry) all (and_from head entry p.0 (has_entry ts m.entrypoint h.entry)) (built_templates ts ts p.1 h.names h.calls)
+    and_from (head && entry) all (and_from head entry p.0 (has_entry ts m.entrypoint h.entry)) (built_templates m ts p.1 h.names h.calls)
 
 -- ---- the law
 
 abbrev form_made : Manifest → Plan → Form
 form_made m plan = record { manifest = m; outcomes = plan }
 
-built_by : (w o : Data) (form : Form) → form_by w o ≡ Ok form → IsTrue (is_built form.manifest)
+built_by : (w o : Data) (form : Form) → form_by w o ≡ Ok form → IsBuilt form.manifest
 unfolding form_by
 built_by w o form e =
     let last : Manifest → Plan → Read Form = λ m said. outcomes_of said >>= λ outcomes. Ok (form_made m outcomes) in
@@ -321,19 +292,26 @@ built_by w o form e =
     let c = then_ok (checks.checked m.0) (λ _. plan [] o >>= last m.0) form m.2 in
     let p = then_ok (plan [] o) (last m.0) form c.2 in
     let q = then_ok (outcomes_of p.0) (λ outcomes. Ok (form_made m.0 outcomes)) form p.2 in
-    subst (λ f. IsTrue (is_built f.manifest)) (ok_is (form_made m.0 q.0) form q.2)
+    subst (λ f. IsBuilt f.manifest) (ok_is (form_made m.0 q.0) form q.2)
     (built m.0 (workflow_made [] w m.0 m.1) (asked_of m.0 c.1))
 
-built_in : (ds : Items) (form : Form) → form_in ds ≡ Ok form → IsTrue (is_built form.manifest)
+built_in : (ds : Items) (form : Form) → form_in ds ≡ Ok form → IsBuilt form.manifest
 built_in no_items form e = absurd cc
 built_in (item w no_items) form e = absurd cc
 built_in (item w (item o no_items)) form e = built_by w o form e
 built_in (item w (item o (item x ds))) form e = absurd cc
 
--- a document of the form says a manifest that is built
-pub form_is_built : (d : Data) (form : Form) → form_of d ≡ Ok form → IsTrue (is_built form.manifest)
+form_is_built : (d : Data) (form : Form) → form_of d ≡ Ok form → IsBuilt form.manifest
 unfolding form_of
 form_is_built d form e =
     let a = then_ok (checks.asked unknown_kind (is_list d)) (λ _. required items (codes "items") [] d >>= form_in) form e in
     let b = then_ok (required items (codes "items") [] d) form_in form a.2 in
     built_in b.0 form b.2
+
+accepted_made : (r : Read Form) (form : Form) → Some form ≡ accepted r → r ≡ Ok form
+accepted_made (Ok f) form e = let same : form ≡ f = cc in ap Ok (sym same)
+accepted_made (Err refusal) form e = absurd cc
+
+-- the manifest of an accepted document is built
+pub accepted_is_built : (d : Data) (form : Form) → Some form ≡ accepted (form_of d) → IsBuilt form.manifest
+accepted_is_built d form e = form_is_built d form (accepted_made (form_of d) form e)
