@@ -1,4 +1,8 @@
-use crate::{FanRefused, Items, items};
+ghost use Rattle.std.specs.Prelude.{◌<◌, length, IfOk, IsTrue};
+ghost use Rattle.std.specs.List.{list_all};
+ghost use Rattle.fanout.specs.Items.{is_whole};
+
+use crate::{FanRefused, Items, add_item_tags, item_text, items, name_text};
 use base_types::{List, Memory, Text};
 use scopes::Scope;
 use serde_json::Value;
@@ -82,5 +86,55 @@ fn refuses(rt: HostRuntime) -> Result<(), Fail> {
     assert!(rt; matches!(number, Err(FanRefused::BadNumber)));
     let unknown = items(alloc, &sequence(alloc, "{{y}}", "x", "%"), &scope);
     assert!(rt; matches!(unknown, Err(FanRefused::Unresolved { .. })));
+    Ok(())
+}
+
+// The items that a JSON list says.
+fn listed(alloc: Global, text: &str, scope: &Scope) -> Result<Items, Fail>
+    ensures { IfOk result (λ items. IsTrue (list_all is_whole items)) }
+{
+    let list = Value::from_str(alloc, text)?;
+    Ok(items(alloc, &Loop::Items(Json::new(list)), scope)?)
+}
+
+// An item of a loop, of which the calls ask that it has whole numbers alone.
+fn item(found: &Items, place: usize) -> &Json
+    requires whole { IsTrue (list_all is_whole found.now) }
+    requires within { place < length found.now }
+    ensures { IsTrue (is_whole result.now) }
+{
+    found.get(place)
+}
+
+// Whether an item says a text, and a text in the name of its node.
+fn says(alloc: Global, item: &Json, text: &str, name: &str) -> Result<bool, Memory>
+    requires { IsTrue (is_whole item.now) }
+{
+    let said = item_text(alloc, item)?;
+    let named = name_text(alloc, item)?;
+    Ok(said.as_str() == text && named.as_str() == name)
+}
+
+#[test]
+fn says_items(rt: HostRuntime) -> Result<(), Fail> {
+    let alloc = rt.alloc();
+    let scope = scope(alloc)?;
+    let found = listed(alloc, "[{\"z\":\"1\",\"k\":\"(x)\"},\"a(b)\"]", &scope)?;
+    assert_eq!(rt; found.len(), 2);
+    let map = item(&found, 0);
+    assert!(rt; says(alloc, map, "{\"k\":\"(x)\",\"z\":\"1\"}", "k:x,z:1")?);
+    assert!(rt; says(alloc, item(&found, 1), "a(b)", "ab")?);
+    Ok(())
+}
+
+#[test]
+fn gives_the_tags_of_items(rt: HostRuntime) -> Result<(), Fail> {
+    let alloc = rt.alloc();
+    let mut scope = scope(alloc)?;
+    let found = listed(alloc, "[{\"z\":\"1\",\"k\":\"(x)\"}]", &scope)?;
+    assert_eq!(rt; found.len(), 1);
+    add_item_tags(alloc, &mut scope, item(&found, 0))?;
+    let list = Loop::Param(parse_tags(alloc, "[\"{{item.z}}{{item.k}}\"]")?);
+    assert!(rt; is_said(&items(alloc, &list, &scope)?, &["1(x)"]));
     Ok(())
 }
