@@ -23,35 +23,16 @@ fn refuses_fields(rt: HostRuntime) -> Result<(), Fail> {
         ("f", "4 spec.f", "4 spec.f", "4 spec.f"),
         ("g", "4 spec.g", "4 spec.g", "4 spec.g"),
     ] {
-        check(&rt, alloc, refuse_if(true, &object, name, &at), asked, name)?;
-        check(
-            &rt,
-            alloc,
-            refuse_if(false, &object, name, &at),
-            "fine",
-            name,
-        )?;
-        check(
-            &rt,
-            alloc,
-            refuse_unless_false(&object, name, &at),
-            unless_false,
-            name,
-        )?;
-        check(
-            &rt,
-            alloc,
-            no_second(true, &object, name, &at),
-            second,
-            name,
-        )?;
-        check(
-            &rt,
-            alloc,
-            no_second(false, &object, name, &at),
-            "fine",
-            name,
-        )?;
+        let read = refuse_if(true, &object, name, &at);
+        check(&rt, alloc, read, asked, name)?;
+        let read = refuse_if(false, &object, name, &at);
+        check(&rt, alloc, read, "fine", name)?;
+        let read = refuse_unless_false(&object, name, &at);
+        check(&rt, alloc, read, unless_false, name)?;
+        let read = no_second(true, &object, name, &at);
+        check(&rt, alloc, read, second, name)?;
+        let read = no_second(false, &object, name, &at);
+        check(&rt, alloc, read, "fine", name)?;
         assert_eq!(rt; has(&object, name), second != "fine", "{name}");
     }
     Ok(())

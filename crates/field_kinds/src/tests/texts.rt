@@ -49,34 +49,14 @@ fn reads_texts(rt: HostRuntime) -> Result<(), Fail> {
         ("i", "3 spec.i", "3 spec.i"),
         ("j", "3 spec.j", "3 spec.j"),
     ] {
-        check(
-            &rt,
-            alloc,
-            optional_text(alloc, &object, name, &at),
-            may,
-            name,
-        )?;
-        check(
-            &rt,
-            alloc,
-            required_text(alloc, &object, name, &at),
-            must,
-            name,
-        )?;
-        check(
-            &rt,
-            alloc,
-            text_if(true, alloc, &object, name, &at),
-            must,
-            name,
-        )?;
-        check(
-            &rt,
-            alloc,
-            text_if(false, alloc, &object, name, &at),
-            "absent",
-            name,
-        )?;
+        let read = optional_text(alloc, &object, name, &at);
+        check(&rt, alloc, read, may, name)?;
+        let read = required_text(alloc, &object, name, &at);
+        check(&rt, alloc, read, must, name)?;
+        let read = text_if(true, alloc, &object, name, &at);
+        check(&rt, alloc, read, must, name)?;
+        let read = text_if(false, alloc, &object, name, &at);
+        check(&rt, alloc, read, "absent", name)?;
     }
     Ok(())
 }
@@ -199,41 +179,16 @@ fn reads_texts_of_a_grammar(rt: HostRuntime) -> Result<(), Fail> {
         ("g", "absent", "2 spec.g", "absent"),
         ("z", "absent", "2 spec.z", "absent"),
     ] {
-        check(
-            &rt,
-            alloc,
-            optional_text_by::<TruthWord>(alloc, &object, name, &at),
-            may,
-            name,
-        )?;
-        check(
-            &rt,
-            alloc,
-            required_text_by::<TruthWord>(alloc, &object, name, &at),
-            must,
-            name,
-        )?;
-        check(
-            &rt,
-            alloc,
-            written_text_by::<TruthWord>(alloc, &object, name, &at),
-            written,
-            name,
-        )?;
-        check(
-            &rt,
-            alloc,
-            text_by_if::<TruthWord>(true, alloc, &object, name, &at),
-            must,
-            name,
-        )?;
-        check(
-            &rt,
-            alloc,
-            text_by_if::<TruthWord>(false, alloc, &object, name, &at),
-            "absent",
-            name,
-        )?;
+        let read = optional_text_by::<TruthWord>(alloc, &object, name, &at);
+        check(&rt, alloc, read, may, name)?;
+        let read = required_text_by::<TruthWord>(alloc, &object, name, &at);
+        check(&rt, alloc, read, must, name)?;
+        let read = written_text_by::<TruthWord>(alloc, &object, name, &at);
+        check(&rt, alloc, read, written, name)?;
+        let read = text_by_if::<TruthWord>(true, alloc, &object, name, &at);
+        check(&rt, alloc, read, must, name)?;
+        let read = text_by_if::<TruthWord>(false, alloc, &object, name, &at);
+        check(&rt, alloc, read, "absent", name)?;
     }
     Ok(())
 }
