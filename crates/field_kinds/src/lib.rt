@@ -10,6 +10,8 @@ mod readable;
 mod refused;
 mod refusing;
 mod rules;
+#[cfg(test)]
+mod tests;
 mod texts;
 mod values;
 
