@@ -16,6 +16,12 @@ use Rattle.meaning.specs.declared.lines.Line.TheVariants.{Stands, Asks, MayBegin
 use Rattle.meaning.specs.Answers.{Sels, Answers}
 use Rattle.growth.proofs.Rows.{All, Laid}
 
+-- ---- a line right behind the first
+
+abbrev pub behind_first : Line → List Line → List Line
+behind_first x [] = x ∷ []
+behind_first x (l ∷ ls) = l ∷ x ∷ ls
+
 -- ---- each line, and one of the lines
 
 abbrev pub Every : (Line → Type 0) → List Line → Type 0
@@ -79,6 +85,11 @@ module _ (P : Line → Type 0) where
 abbrev pub IsNode : Node → Line → Type 0
 IsNode n (Stands o) = o ≡ n
 IsNode n _ = ⊥
+
+-- this is asked for here
+abbrev pub IsWant : Want → Line → Type 0
+IsWant w (Asks v) = v ≡ w
+IsWant w _ = ⊥
 
 -- a node of this path stands here
 abbrev pub IsAt : Sels → Line → Type 0

@@ -2,7 +2,7 @@
 -- and its nodes are told apart.
 use Rattle.std.proofs.Common.{◌≡◌, refl, sym, ap, subst, ◌+◌, arith}
 use Rattle.std.proofs.Math.Logic.{inl}
-use Rattle.std.specs.Prelude.{ℕ, zero, suc, List, [], ◌∷◌, ◌++◌, Bool, true, false, not, ◌||◌, Option, Some, None, Ok, Err, map, flat_map, length, codes}
+use Rattle.std.specs.Prelude.{ℕ, zero, suc, List, [], ◌∷◌, ◌++◌, Bool, true, false, not, ◌||◌, Option, Some, None, Ok, Err, map, length, codes}
 use Rattle.tree_types.specs.declared.path.Path.{Path}
 use Rattle.tree_types.specs.declared.path.Sel.{Sel}
 use Rattle.tree_types.specs.declared.path.Sel.TheVariants.{Group, Step, Task as task_sel, Attempt}
@@ -31,15 +31,15 @@ use Rattle.wf_manifest.specs.declared.templates.Retry.{Retry}
 use Rattle.scopes.specs.Substitution.{Found, Scope}
 use Rattle.meaning.specs.declared.lines.Place.{Place}
 use Rattle.meaning.specs.declared.lines.Line.{Line}
-use Rattle.meaning.specs.declared.lines.Line.TheVariants.{Stands, Asks}
-use Rattle.meaning.specs.declared.lines.Made.{Made}
+use Rattle.meaning.specs.declared.lines.Line.TheVariants.{Asks, MayBegin}
 use Rattle.meaning.specs.Answers.{path, Sels, Answers}
-use Rattle.meaning.specs.Lines.{numbered, no_outputs, node, made, alone, lines_of}
-use Rattle.meaning.specs.Outputs.{completed, computed, ending}
+use Rattle.meaning.specs.Lines.{lines_below, then_parts, asked, row_of, nothing, Parts, Made, lines_in, numbered, no_outputs, node, made, alone, lines_of}
+use Rattle.meaning.specs.Outputs.{Ending, completed, computed, defaulted, succeeded_node, ended_node}
 use Rattle.meaning.specs.Pods.{outputs_of, pod_by, Attempts, ends_with, first_begin, further, attempt, may_start, ended_attempt, started_by, retried_by, follows, attempt_by, attempts_from, attempts, next_timer, retry_node, retry_made}
 use Rattle.meaning.specs.Suspends.{seconds_of, timer_wants, suspend_wants, suspend_by, suspended, suspend_made}
-use Rattle.meaning.specs.Steps.{Runner, Member, member_place, member, members, makings, group_phase, group_made, Groups, group_place, groups_by, members_at, groups_from, steps_phase, steps_made}
-use Rattle.meaning.specs.Dags.{Standing, waiting, ready, exists, Look, Standings, look, task_place, tags_before, awaited, is_meant, free_by, free, decided_by, waits_by, meant, meant_by, standing, with_standing, rounds, standings, is_doomed, dag_phase, standing_lines, task_lines, dag_lines, dag_tags, dag_made}
+use Rattle.meaning.specs.Steps.{Caller, Member, member_place, member, members, makings, group_phase, group_made, Groups, group_place, groups_by, members_at, groups_from, steps_phase, steps_made}
+use Rattle.meaning.specs.Dags.{Standing, waiting, ready, exists, Look, Standings, look, task_place, tags_before, awaited, is_meant, free_by, free, decided_by, waits_by, meant, meant_by, standing, with_standing, rounds, standings, is_doomed, dag_phase, dag_tags, dag_made, task_then, tasks_below}
+use Rattle.meaning.proofs.Flattening.{lines_tried}
 use Rattle.growth.proofs.Rows.{all_map, All, all_numbered, Laid}
 use Rattle.growth.proofs.Lines.{Has, AllOpen, Unresumed, Proper, proper_append, proper_map, proper_wants, Nowhere, Under, Inside, AtChild, From, inside_under, under_at_child, Ways, from_inside, child_then, rows_proper}
 use Rattle.growth.proofs.Keeping.{At, node_at, ending_ends}
@@ -78,13 +78,32 @@ abbrev pub task_step : ℕ → Task → Descent
 task_step i t = (task_sel i, seg.Call t.call.name)
 
 abbrev pub members_laid : Laid Member
-members_laid = record { one = λ i m. m.1.lines; rows = λ i ms. lines_of (makings ms); none = λ i. refl; more = λ i m ms. refl }
+members_laid = record { one = λ i m. (lines_in m.1); rows = λ i ms. lines_of (makings ms); none = λ i. refl; more = λ i m ms. refl }
 
 abbrev pub items_laid : Laid Made
-items_laid = record { one = λ i m. m.lines; rows = λ i ms. lines_of ms; none = λ i. refl; more = λ i m ms. refl }
+items_laid = record { one = λ i m. (lines_in m); rows = λ i ms. lines_of ms; none = λ i. refl; more = λ i m ms. refl }
+
+-- what stands for a task, as lines
+abbrev pub standing_lines : Bool → Place → Standing → List Line
+standing_lines doomed at (exists m branch seen) = lines_in m
+standing_lines false at ready = MayBegin (path at.sels) ∷ []
+standing_lines doomed at _ = []
+
+abbrev pub task_lines : Bool → Place → ℕ → Task × Standing → List Line
+task_lines doomed place i s = standing_lines doomed (task_place place i s.0) s.1
+
+abbrev pub dag_lines : Bool → Place → Standings → List Line
+dag_lines doomed place ss = lines_below (tasks_below doomed place 0 ss)
+
+pub task_laid : (doomed : Bool) (at : Place) (u : Standing) (more : Parts) → lines_below (task_then doomed at u more) ≡ standing_lines doomed at u ++ lines_below more
+task_laid doomed at (exists m branch seen) more = refl
+task_laid false at ready more = refl
+task_laid true at ready more = refl
+task_laid false at waiting more = refl
+task_laid true at waiting more = refl
 
 abbrev pub tasks_laid : Bool → Place → Laid (Task × Standing)
-tasks_laid doomed place = record { one = task_lines doomed place; rows = λ i ss. flat_map (λ ls. ls) (numbered (task_lines doomed place) i ss); none = λ i. refl; more = λ i s ss. refl }
+tasks_laid doomed place = record { one = task_lines doomed place; rows = λ i ss. lines_below (tasks_below doomed place i ss); none = λ i. refl; more = λ i s ss. task_laid doomed (task_place place i s.0) s.1 (tasks_below doomed place (suc i) ss) }
 
 -- ---- which manifests' names fit
 
@@ -101,60 +120,54 @@ neither_left true b e = absurd (cc e)
 neither_left false b e = (refl, e)
 
 module _ (G : Geometry) (A : Answers) where
-  -- what a template makes: its own node stands first, it is finished when that node is fulfilled
+  -- what a template makes: its node stands at this place, and it is finished when that node is fulfilled
   pub record Topped (p : Place) (b : Made) : Type 0 where
-    pub first : Node
-    pub rest : List Line
-    pub lines : b.lines ≡ Stands first ∷ rest
-    pub at : At p first
-    pub over : b.finished ≡ fulfilled b.phase
-    pub proper : Proper A (Inside p.sels) b.lines
-    pub placed : Placed G (Top G p) b.lines
+    pub at : At p b.own.node
+    pub over : b.own.finished ≡ fulfilled b.own.node.phase
+    pub proper : Proper A (Inside p.sels) (lines_in b)
+    pub placed : Placed G (Top G p) (lines_in b)
 
   -- what a call makes
   pub record Called (p : Place) (b : Made) : Type 0 where
-    pub has : Has p.sels b.lines
-    pub proper : Proper A (Under p.sels) b.lines
-    pub placed : Placed G (G.Below p) b.lines
+    pub has : Has p.sels (lines_in b)
+    pub proper : Proper A (Under p.sels) (lines_in b)
+    pub placed : Placed G (G.Below p) (lines_in b)
 
   pub topped_called : (p : Place) (b : Made) → Topped p b → Called p b
   topped_called p b h = record {
-    has = subst (Has p.sels) (sym h.lines) (inl (ap (λ (x : Path). x.sels) h.at.path));
-    proper = proper_map A (Inside p.sels) (Under p.sels) b.lines (inside_under p.sels) h.proper;
-    placed = outer G p b.lines h.placed;
+    has = inl (ap (λ (x : Path). x.sels) h.at.path);
+    proper = proper_map A (Inside p.sels) (Under p.sels) (lines_in b) (inside_under p.sels) h.proper;
+    placed = outer G p (lines_in b) h.placed;
   }
 
-  pub made_topped : (p : Place) (n : Node) (ws : List Want) (ls : List Line) → At p n → Unresumed A n → AllOpen A ws → Proper A (Inside p.sels) ls → Placed G (Inner G p) ls → Topped p (made n ws ls)
-  made_topped p n ws ls at u o r d = record {
-    first = n;
-    rest = map Asks ws ++ ls;
-    lines = refl;
+  pub made_topped : (p : Place) (n : Node) (ws : List Want) (parts : Parts) → At p n → Unresumed A n → AllOpen A ws → Proper A (Inside p.sels) (lines_below parts) → Placed G (Inner G p) (lines_below parts) → Topped p (made n ws parts)
+  made_topped p n ws parts at u o r d = record {
     at = at;
     over = refl;
-    proper = (u, proper_append A (Inside p.sels) (map Asks ws) ls (proper_wants A (Inside p.sels) ws o) r);
-    placed = placed_made G p n ws ls at d;
+    proper = (u, proper_append A (Inside p.sels) (map Asks ws) (lines_below parts) (proper_wants A (Inside p.sels) ws o) r);
+    placed = placed_made G p n ws (lines_below parts) at d;
   }
 
   -- a node that asks for something, with nothing below it
-  pub leaf_topped : (p : Place) (n : Node) (ws : List Want) → At p n → Unresumed A n → AllOpen A ws → Topped p (made n ws [])
-  leaf_topped p n ws at u o = made_topped p n ws [] at u o tt (placed_none G (Inner G p))
+  pub leaf_topped : (p : Place) (n : Node) (ws : List Want) → At p n → Unresumed A n → AllOpen A ws → Topped p (made n ws nothing)
+  leaf_topped p n ws at u o = made_topped p n ws nothing at u o tt (placed_none G (Inner G p))
 
   pub alone_topped : (p : Place) (k : Kind) (ph : Phase) (n : Note) → (ph ≡ Running → ⊥) → Topped p (alone p k ph n)
   alone_topped p k ph n f = leaf_topped p (node p k ph n no_outputs) [] (node_at p k ph n no_outputs) (λ _ e. absurd (f e)) tt
 
   -- a node that would end so, over lines below it
-  pub ending_topped : (p : Place) (k : Kind) (ph : Phase) (n : Note) (o : Outputs) (d : Found Outputs) (ls : List Line) → (k ≡ kind.Suspend → ⊥) → Proper A (Inside p.sels) ls → Placed G (Inner G p) ls → Topped p (made (ending p k ph n o d) [] ls)
-  ending_topped p k ph n o d ls f r h =
+  pub ending_topped : (p : Place) (k : Kind) (ph : Phase) (n : Note) (o : Outputs) (d : Ending) (parts : Parts) → (k ≡ kind.Suspend → ⊥) → Proper A (Inside p.sels) (lines_below parts) → Placed G (Inner G p) (lines_below parts) → Topped p (made (ended_node p k ph n o d) [] parts)
+  ending_topped p k ph n o d parts f r h =
       let e = ending_ends p k ph n o d in
-      made_topped p (ending p k ph n o d) [] ls e.at (λ s _. absurd (f (cc (s, e.kind)))) tt r h
+      made_topped p (ended_node p k ph n o d) [] parts e.at (λ s _. absurd (f (cc (s, e.kind)))) tt r h
 
   -- ---- pods and attempts
 
   pub pod_topped : (p : Place) (ds : List OutputDecl) (o : Option (Note × Outcome)) → A.outcome p ≡ o → Topped p (pod_by p ds o)
   pod_topped p ds None e = leaf_topped p (node p kind.Pod Running note.None no_outputs) (want.Pod (path p.sels) ∷ []) (node_at p kind.Pod Running note.None no_outputs) (λ s _. absurd (cc s)) ((p, refl, e), tt)
-  pod_topped p ds (Some o) e = ending_topped p kind.Pod o.1.phase o.0 (outputs_of o.1) (completed ds (outputs_of o.1)) [] (λ s. absurd (cc s)) tt (placed_none G (Inner G p))
+  pod_topped p ds (Some o) e = ending_topped p kind.Pod o.1.phase o.0 (outputs_of o.1) (completed ds (outputs_of o.1)) nothing (λ s. absurd (cc s)) tt (placed_none G (Inner G p))
 
-  pub pod_proper : (p : Place) (ds : List OutputDecl) (o : Option (Note × Outcome)) → A.outcome p ≡ o → Proper A Nowhere (pod_by p ds o).lines
+  pub pod_proper : (p : Place) (ds : List OutputDecl) (o : Option (Note × Outcome)) → A.outcome p ≡ o → Proper A Nowhere (lines_in (pod_by p ds o))
   pod_proper p ds None e = ((λ s _. absurd (cc s)), ((p, refl, e), tt))
   pod_proper p ds (Some o) e = let n = ending_ends p kind.Pod o.1.phase o.0 (outputs_of o.1) (completed ds (outputs_of o.1)) in ((λ s _. absurd (cc (s, n.kind))), tt)
 
@@ -174,63 +187,69 @@ module _ (G : Geometry) (A : Answers) where
     record Trying (k n : ℕ) (a : Attempts) : Type 0 where
       pods : Proper A Nowhere (lines_of a.all)
       placed : Placed G (Region k n) (lines_of a.all)
-      timer : (tick : ℕ) → a.next ≡ Some tick → A.due (attempt A p ds r (k + length a.all)).sels ≡ false
+      timer : (tick : ℕ) → a.next ≡ Some tick → A.due (attempt p (k + length a.all)).sels ≡ false
 
-    one_placed : (k : ℕ) (o : Option (Note × Outcome)) → A.outcome (attempt A p ds r k) ≡ o → Placed G (G.Below (down p (attempt_step k tt))) (pod_by (attempt A p ds r k) ds o).lines
-    one_placed k o e = outer G (attempt A p ds r k) (pod_by (attempt A p ds r k) ds o).lines (pod_topped (attempt A p ds r k) ds o e).placed
+    one_placed : (k : ℕ) (o : Option (Note × Outcome)) → A.outcome (attempt p k) ≡ o → Placed G (G.Below (down p (attempt_step k tt))) (lines_in (pod_by (attempt p k) ds o))
+    one_placed k o e = outer G (attempt p k) (lines_in (pod_by (attempt p k) ds o)) (pod_topped (attempt p k) ds o e).placed
 
-    last_placed : (k n : ℕ) (o : Option (Note × Outcome)) → A.outcome (attempt A p ds r k) ≡ o → Placed G (Region k n) (lines_of (pod_by (attempt A p ds r k) ds o ∷ []))
-    last_placed k zero o e = placed_last G attempt_step p k tt [] (pod_by (attempt A p ds r k) ds o).lines (one_placed k o e)
-    last_placed k (suc n) o e = placed_last G attempt_step p k tt (tries n) (pod_by (attempt A p ds r k) ds o).lines (one_placed k o e)
+    last_placed : (k n : ℕ) (o : Option (Note × Outcome)) → A.outcome (attempt p k) ≡ o → Placed G (Region k n) (lines_of (pod_by (attempt p k) ds o ∷ []))
+    last_placed k zero o e = placed_last G attempt_step p k tt [] (lines_in (pod_by (attempt p k) ds o)) (one_placed k o e)
+    last_placed k (suc n) o e = placed_last G attempt_step p k tt (tries n) (lines_in (pod_by (attempt p k) ds o)) (one_placed k o e)
 
-    one_ends : (k n : ℕ) (o : Option (Note × Outcome)) (over : Bool) → A.outcome (attempt A p ds r k) ≡ o → Trying k n (ends_with (pod_by (attempt A p ds r k) ds o) over)
+    one_ends : (k n : ℕ) (o : Option (Note × Outcome)) (over : Bool) → A.outcome (attempt p k) ≡ o → Trying k n (ends_with (pod_by (attempt p k) ds o) over)
     one_ends k n o over e = record {
-      pods = proper_append A Nowhere (pod_by (attempt A p ds r k) ds o).lines [] (pod_proper (attempt A p ds r k) ds o e) tt;
+      pods = proper_append A Nowhere (lines_in (pod_by (attempt p k) ds o)) [] (pod_proper (attempt p k) ds o e) tt;
       placed = last_placed k n o e;
       timer = λ tick f. absurd (cc f);
     }
 
-    not_due : (b : Option Backoff) (k : ℕ) → may_start A p ds r b k ≡ false → A.due (attempt A p ds r k).sels ≡ false
+    not_due : (b : Option Backoff) (k : ℕ) → may_start A p b k ≡ false → A.due (attempt p k).sels ≡ false
     not_due None k e = absurd (cc e)
     not_due (Some b) k e = e
 
-    module _ (k n : ℕ) (o : Note × Outcome) (known : A.outcome (attempt A p ds r k) ≡ Some o) (begin : ℕ) (rest : ℕ → Attempts) (more : Trying (suc k) n (rest begin)) where
+    module _ (k n : ℕ) (o : Note × Outcome) (known : A.outcome (attempt p k) ≡ Some o) (begin : ℕ) (rest : ℕ → Attempts) (more : Trying (suc k) n (rest begin)) where
       abbrev this : Made
-      this = ended_attempt A p ds r k o
+      this = ended_attempt p ds k o
 
-      trying_started : (b : Bool) → may_start A p ds r r.backoff (suc k) ≡ b → Trying k (suc n) (started_by A p ds r k o begin rest b)
+      trying_started : (b : Bool) → may_start A p r.backoff (suc k) ≡ b → Trying k (suc n) (started_by A p ds r k o begin rest b)
       trying_started false e = record {
-        pods = proper_append A Nowhere this.lines [] (pod_proper (attempt A p ds r k) ds (Some o) known) tt;
+        pods = proper_append A Nowhere (lines_in this) [] (pod_proper (attempt p k) ds (Some o) known) tt;
         placed = last_placed k (suc n) (Some o) known;
-        timer = λ tick _. (let s : suc k ≡ k + 1 = omega arith in subst (λ (i : ℕ). A.due (attempt A p ds r i).sels ≡ false) s (not_due r.backoff (suc k) e));
+        timer = λ tick _. (let s : suc k ≡ k + 1 = omega arith in subst (λ (i : ℕ). A.due (attempt p i).sels ≡ false) s (not_due r.backoff (suc k) e));
       }
       trying_started true e = record {
-        pods = proper_append A Nowhere this.lines (lines_of (rest begin).all) (pod_proper (attempt A p ds r k) ds (Some o) known) more.pods;
-        placed = placed_then G attempt_step p k tt (tries n) this.lines (lines_of (rest begin).all) (tries_kin k (suc n)) (one_placed k (Some o) known) more.placed;
-        timer = λ tick f. (let s : suc k + length (rest begin).all ≡ k + suc (length (rest begin).all) = omega arith in subst (λ (i : ℕ). A.due (attempt A p ds r i).sels ≡ false) s (more.timer tick f));
+        pods = proper_append A Nowhere (lines_in this) (lines_of (rest begin).all) (pod_proper (attempt p k) ds (Some o) known) more.pods;
+        placed = placed_then G attempt_step p k tt (tries n) (lines_in this) (lines_of (rest begin).all) (tries_kin k (suc n)) (one_placed k (Some o) known) more.placed;
+        timer = λ tick f. (let s : suc k + length (rest begin).all ≡ k + suc (length (rest begin).all) = omega arith in subst (λ (i : ℕ). A.due (attempt p i).sels ≡ false) s (more.timer tick f));
       }
 
       trying_retried : (b : Bool) → Trying k (suc n) (retried_by A p ds r k o begin rest b)
       trying_retried false = one_ends k (suc n) (Some o) true known
-      trying_retried true = trying_started (may_start A p ds r r.backoff (suc k)) refl
+      trying_retried true = trying_started (may_start A p r.backoff (suc k)) refl
 
-    trying_by : (k n : ℕ) (first : Option ℕ) (rest : ℕ → Attempts) → ((begin : ℕ) → Trying (suc k) n (rest begin)) → (o : Option (Note × Outcome)) → A.outcome (attempt A p ds r k) ≡ o → Trying k (suc n) (attempt_by A p ds r k first rest o)
+    trying_by : (k n : ℕ) (first : Option ℕ) (rest : ℕ → Attempts) → ((begin : ℕ) → Trying (suc k) n (rest begin)) → (o : Option (Note × Outcome)) → A.outcome (attempt p k) ≡ o → Trying k (suc n) (attempt_by A p ds r k first rest o)
     trying_by k n first rest more None e = one_ends k (suc n) None false e
-    trying_by k n first rest more (Some o) e = trying_retried k n o e (first_begin first o.1) rest (more (first_begin first o.1)) (follows A p ds r o k (first_begin first o.1))
+    trying_by k n first rest more (Some o) e = trying_retried k n o e (first_begin first o.1) rest (more (first_begin first o.1)) (follows p ds r o k (first_begin first o.1))
 
     trying : (n k : ℕ) (first : Option ℕ) → Trying k n (attempts_from A p ds r n k first)
-    trying zero k first = one_ends k zero (A.outcome (attempt A p ds r k)) _ refl
-    trying (suc n) k first = trying_by k n first (λ begin. attempts_from A p ds r n (suc k) (Some begin)) (λ begin. trying n (suc k) (Some begin)) (A.outcome (attempt A p ds r k)) refl
+    trying zero k first = one_ends k zero (A.outcome (attempt p k)) _ refl
+    trying (suc n) k first = trying_by k n first (λ begin. attempts_from A p ds r n (suc k) (Some begin)) (λ begin. trying n (suc k) (Some begin)) (A.outcome (attempt p k)) refl
 
-    timer_open : (a : Attempts) (n : ℕ) → Trying 0 n a → (t : Option ℕ) → a.next ≡ t → AllOpen A (next_timer A p ds r a.all t)
+    timer_open : (a : Attempts) (n : ℕ) → Trying 0 n a → (t : Option ℕ) → a.next ≡ t → AllOpen A (next_timer p a.all t)
     timer_open a n h None e = tt
-    timer_open a n h (Some tick) e = (let s : 0 + length a.all ≡ length a.all = omega arith in subst (λ (i : ℕ). A.due (attempt A p ds r i).sels ≡ false) s (h.timer tick e), tt)
+    timer_open a n h (Some tick) e = (let s : 0 + length a.all ≡ length a.all = omega arith in subst (λ (i : ℕ). A.due (attempt p i).sels ≡ false) s (h.timer tick e), tt)
 
     abbrev the : Attempts
     the = attempts A p ds r
 
     abbrev timers : List Want
-    timers = next_timer A p ds r the.all the.next
+    timers = next_timer p the.all the.next
+
+    abbrev below_it : Parts
+    below_it = then_parts (row_of the.all) (asked timers)
+
+    laid : lines_of the.all ++ map Asks timers ≡ lines_below below_it
+    laid = sym (lines_tried (row_of the.all) timers)
 
     below_proper : Proper A Nowhere (lines_of the.all ++ map Asks timers)
     below_proper = let h = trying (further r) 0 None in proper_append A Nowhere (lines_of the.all) (map Asks timers) h.pods (proper_wants A Nowhere timers (timer_open the (further r) h the.next refl))
@@ -241,19 +260,19 @@ module _ (G : Geometry) (A : Answers) where
         let h = trying n 0 None in
         placed_before G (Inner G p) (lines_of the.all) (map Asks timers) (placed_map G (Region 0 n) (Inner G p) (lines_of the.all) (kids_inner G attempt_step p 0 (tries n) (λ j x. refl) (tries_kin 0 n)) h.placed) (placed_wants G (λ k. ⊥) timers)
 
-    pub retry_at : (a : Attempts) (b : Bool) → At p (retry_node A p ds r a b)
-    retry_at a true = node_at p kind.Retry a.last.phase note.None a.last.outputs
+    pub retry_at : (a : Attempts) (b : Bool) → At p (retry_node p a b)
+    retry_at a true = node_at p kind.Retry a.last.own.node.phase note.None a.last.own.node.outputs
     retry_at a false = node_at p kind.Retry Running note.None no_outputs
 
-    unresumed : (a : Attempts) (b : Bool) → Unresumed A (retry_node A p ds r a b)
+    unresumed : (a : Attempts) (b : Bool) → Unresumed A (retry_node p a b)
     unresumed a true s _ = absurd (cc s)
     unresumed a false s _ = absurd (cc s)
 
     pub retry_topped : Topped p (retry_made A p ds r)
-    retry_topped = made_topped p (retry_node A p ds r the the.over) [] _ (retry_at the the.over) (unresumed the the.over) tt (proper_map A Nowhere (Inside p.sels) (lines_of the.all ++ map Asks timers) (λ q x. absurd x) below_proper) below_placed
+    retry_topped = made_topped p (retry_node p the the.over) [] below_it (retry_at the the.over) (unresumed the the.over) tt (proper_map A Nowhere (Inside p.sels) (lines_below below_it) (λ q x. absurd x) (subst (Proper A Nowhere) laid below_proper)) (subst (Placed G (Inner G p)) laid below_placed)
 
-    pub retry_proper : Proper A Nowhere (retry_made A p ds r).lines
-    retry_proper = (unresumed the the.over, below_proper)
+    pub retry_proper : Proper A Nowhere (lines_in (retry_made A p ds r))
+    retry_proper = (unresumed the the.over, subst (Proper A Nowhere) laid below_proper)
 
   -- ---- suspended nodes
 
@@ -265,37 +284,37 @@ module _ (G : Geometry) (A : Answers) where
   suspend_open p n None e d = (e, tt)
   suspend_open p n (Some tick) e d = timer_wants_open p tick n d
 
-  suspend_by_topped : (p : Place) (s : Scope) (ds : List OutputDecl) (n : Option ℕ) (b : Bool) → (A.due p.sels || A.resumed p.sels) ≡ b → Topped p (suspend_by A p s ds n b)
-  suspend_by_topped p s ds n true e = let x = ended_well (computed s ds) in leaf_topped p (ending p kind.Suspend Succeeded note.None no_outputs (computed s ds)) [] (ending_ends p kind.Suspend Succeeded note.None no_outputs (computed s ds)).at x tt
+  suspend_by_topped : (p : Place) (ds : List OutputDecl) (n : Option ℕ) (b : Bool) → (A.due p.sels || A.resumed p.sels) ≡ b → Topped p (suspend_by p ds n (A.armed p.sels) b)
+  suspend_by_topped p ds n true e = let x = ended_well (defaulted ds).outputs (defaulted ds).lack in leaf_topped p (ended_node p kind.Suspend Succeeded note.None no_outputs (defaulted ds)) [] (ending_ends p kind.Suspend Succeeded note.None no_outputs (defaulted ds)).at x tt
     where
-      ended_well : (d : Found Outputs) → Unresumed A (ending p kind.Suspend Succeeded note.None no_outputs d)
-      ended_well (Ok o) k r = absurd (cc r)
-      ended_well (Err x) k r = absurd (cc r)
-  suspend_by_topped p s ds n false e = let two = neither_left (A.due p.sels) (A.resumed p.sels) e in leaf_topped p (node p kind.Suspend Running note.None no_outputs) (suspend_wants p n (A.armed p.sels)) (node_at p kind.Suspend Running note.None no_outputs) (λ _ _. two.1) (suspend_open p n (A.armed p.sels) refl two.0)
+      ended_well : (o : Outputs) (lack : Option (List ℕ)) → Unresumed A (succeeded_node p kind.Suspend note.None o lack)
+      ended_well o None k r = absurd (cc r)
+      ended_well o (Some name) k r = absurd (cc r)
+  suspend_by_topped p ds n false e = let two = neither_left (A.due p.sels) (A.resumed p.sels) e in leaf_topped p (node p kind.Suspend Running note.None no_outputs) (suspend_wants p n (A.armed p.sels)) (node_at p kind.Suspend Running note.None no_outputs) (λ _ _. two.1) (suspend_open p n (A.armed p.sels) refl two.0)
 
-  suspended_topped : (p : Place) (s : Scope) (ds : List OutputDecl) (f : Found (Option ℕ)) → Topped p (suspended A p s ds f)
-  suspended_topped p s ds (Err fault) = alone_topped p kind.Suspend Error fault (λ e. absurd (cc e))
-  suspended_topped p s ds (Ok n) = suspend_by_topped p s ds n _ refl
+  suspended_topped : (p : Place) (ds : List OutputDecl) (f : Found (Option ℕ)) → Topped p (suspended A p ds f)
+  suspended_topped p ds (Err fault) = alone_topped p kind.Suspend Error fault (λ e. absurd (cc e))
+  suspended_topped p ds (Ok n) = suspend_by_topped p ds n _ refl
 
   pub suspend_topped : (p : Place) (s : Scope) (ds : List OutputDecl) (o : Option (List Part)) → Topped p (suspend_made A p s ds o)
-  suspend_topped p s ds o = suspended_topped p s ds (seconds_of s o)
+  suspend_topped p s ds o = suspended_topped p ds (seconds_of s o)
 
   -- ---- what calls others
 
-  abbrev pub Sound : Runner → Type 0
+  abbrev pub Sound : Caller → Type 0
   Sound run = (prefix : List ℕ) (p : Place) (s : Scope) (c : Call) → Called p (run prefix p s c)
 
   pub at_child : (P : Sels) (s : Sel) (ls : List Line) → Proper A (Under (P ++ s ∷ [])) ls → Proper A (AtChild P s) ls
   at_child P s ls h = proper_map A (Under (P ++ s ∷ [])) (AtChild P s) ls (under_at_child P s) h
 
-  module _ (run : Runner) (sound : Sound run) where
-    pub members_proper : (g : Place) (s : Scope) (i : ℕ) (cs : List Call) → All (λ j m. Proper A (AtChild g.sels (step_at j)) m.1.lines) i (numbered (member run g s) i cs)
-    members_proper g s i cs = all_numbered (member run g s) (λ j m. Proper A (AtChild g.sels (step_at j)) m.1.lines) i cs (λ j c. at_child g.sels (step_at j) (member run g s j c).1.lines (sound (codes "steps.") (member_place g j c) s c).proper)
+  module _ (run : Caller) (sound : Sound run) where
+    pub members_proper : (g : Place) (s : Scope) (i : ℕ) (cs : List Call) → All (λ j m. Proper A (AtChild g.sels (step_at j)) (lines_in m.1)) i (numbered (member run g s) i cs)
+    members_proper g s i cs = all_numbered (member run g s) (λ j m. Proper A (AtChild g.sels (step_at j)) (lines_in m.1)) i cs (λ j c. at_child g.sels (step_at j) (lines_in (member run g s j c).1) (sound (codes "steps.") (member_place g j c) s c).proper)
 
     pub group_called : (g : Place) (s : Scope) (cs : List Call) → Kin G member_step 0 cs → Called g (group_made g (members run g s cs))
     group_called g s cs k =
         let ms = members run g s cs in
-        topped_called g (group_made g ms) (made_topped g (node g kind.StepGroup (group_phase ms) note.None no_outputs) [] (lines_of (makings ms)) (node_at g kind.StepGroup (group_phase ms) note.None no_outputs) (λ e _. absurd (cc e)) tt (proper_map A (From step_at g.sels 0) (Inside g.sels) (lines_of (makings ms)) (from_inside step_at step_ways g.sels 0) (rows_proper step_at step_ways g.sels members_laid A 0 ms (members_proper g s 0 cs))) (placed_map G (Kids G member_step g 0 cs) (Inner G g) (lines_of (makings ms)) (kids_inner G member_step g 0 cs (λ j x. refl) k) (rows_placed G member_step members_laid (member run g s) g 0 cs k (λ j c. (sound (codes "steps.") (member_place g j c) s c).placed))))
+        topped_called g (group_made g ms) (made_topped g (node g kind.StepGroup (group_phase ms) note.None no_outputs) [] (row_of (makings ms)) (node_at g kind.StepGroup (group_phase ms) note.None no_outputs) (λ e _. absurd (cc e)) tt (proper_map A (From step_at g.sels 0) (Inside g.sels) (lines_of (makings ms)) (from_inside step_at step_ways g.sels 0) (rows_proper step_at step_ways g.sels members_laid A 0 ms (members_proper g s 0 cs))) (placed_map G (Kids G member_step g 0 cs) (Inner G g) (lines_of (makings ms)) (kids_inner G member_step g 0 cs (λ j x. refl) k) (rows_placed G member_step members_laid (member run g s) g 0 cs k (λ j c. (sound (codes "steps.") (member_place g j c) s c).placed))))
 
     module _ (p : Place) where
       -- the groups from one on
@@ -308,11 +327,11 @@ module _ (G : Geometry) (A : Answers) where
 
       groups_by_sound : (i : ℕ) (s tags : Scope) (cs : List Call) (gs : List (List Call)) (rest : Scope → Groups) → Called (group_place p i) (group_made (group_place p i) (members_at run p i s cs)) → ((inner : Scope) → Grouped (suc i) gs (lines_of (rest inner).all)) → (b : Bool) → Grouped i (cs ∷ gs) (lines_of (groups_by (group_made (group_place p i) (members_at run p i s cs)) tags s rest b).all)
       groups_by_sound i s tags cs gs rest g h true =
-          let ls = (group_made (group_place p i) (members_at run p i s cs)).lines in
+          let ls = (lines_in (group_made (group_place p i) (members_at run p i s cs))) in
           let r = h (tags ++ s) in
           record { proper = child_then group_at group_ways p.sels A i ls (lines_of (rest (tags ++ s)).all) (at_child p.sels (group_at i) ls g.proper) r.proper; placed = placed_then G group_step p i cs gs ls (lines_of (rest (tags ++ s)).all) (groups_kin i (cs ∷ gs)) g.placed r.placed }
       groups_by_sound i s tags cs gs rest g h false =
-          let ls = (group_made (group_place p i) (members_at run p i s cs)).lines in
+          let ls = (lines_in (group_made (group_place p i) (members_at run p i s cs))) in
           record { proper = child_then group_at group_ways p.sels A i ls [] (at_child p.sels (group_at i) ls g.proper) tt; placed = placed_last G group_step p i cs gs ls g.placed }
 
       pub groups_sound : (i : ℕ) (s : Scope) (gs : List (List Call)) → StepsFit G gs → Grouped i gs (lines_of (groups_from run p i s gs).all)
@@ -323,7 +342,7 @@ module _ (G : Geometry) (A : Answers) where
     steps_topped p s ds gs k =
         let a = groups_from run p 0 s gs in
         let h = groups_sound p 0 s gs k in
-        ending_topped p kind.Steps (steps_phase a.all) note.None no_outputs (computed a.scope ds) (lines_of a.all) (λ e. absurd (cc e)) (proper_map A (From group_at p.sels 0) (Inside p.sels) (lines_of a.all) (from_inside group_at group_ways p.sels 0) h.proper) (placed_map G (Kids G group_step p 0 gs) (Inner G p) (lines_of a.all) (kids_inner G group_step p 0 gs (λ j x. refl) (groups_kin p 0 gs)) h.placed)
+        ending_topped p kind.Steps (steps_phase a.all) note.None no_outputs (computed a.scope ds) (row_of a.all) (λ e. absurd (cc e)) (proper_map A (From group_at p.sels 0) (Inside p.sels) (lines_of a.all) (from_inside group_at group_ways p.sels 0) h.proper) (placed_map G (Kids G group_step p 0 gs) (Inner G p) (lines_of a.all) (kids_inner G group_step p 0 gs (λ j x. refl) (groups_kin p 0 gs)) h.placed)
 
     -- ---- DAGs
 
@@ -369,8 +388,8 @@ module _ (G : Geometry) (A : Answers) where
       line_proper false k t waiting h = tt
       line_proper true k t ready h = tt
       line_proper false k t ready h = ((([], refl), h), tt)
-      line_proper true k t (exists m b seen) h = at_child p.sels (task_at k) m.lines h.proper
-      line_proper false k t (exists m b seen) h = at_child p.sels (task_at k) m.lines h.proper
+      line_proper true k t (exists m b seen) h = at_child p.sels (task_at k) (lines_in m) h.proper
+      line_proper false k t (exists m b seen) h = at_child p.sels (task_at k) (lines_in m) h.proper
 
       line_placed : (x : Bool) (k : ℕ) (t : Task) (u : Standing) → StandSound k t u → Placed G (G.Below (task_place p k t)) (standing_lines x (task_place p k t) u)
       line_placed true k t waiting h = placed_none G _
@@ -391,4 +410,4 @@ module _ (G : Geometry) (A : Answers) where
       dag_topped ds k =
           let ss = standings A run p s d in
           let x = is_doomed d ss in
-          ending_topped p kind.DAG (dag_phase d ss) note.None no_outputs (computed (dag_tags ss ++ s) ds) (dag_lines x p ss) (λ e. absurd (cc e)) (proper_map A (From task_at p.sels 0) (Inside p.sels) (dag_lines x p ss) (from_inside task_at task_ways p.sels 0) (rows_proper task_at task_ways p.sels (tasks_laid x p) A 0 ss (lines_proper x 0 ss (rounds_sound (length d.tasks))))) (placed_map G (Kids G task_step p 0 d.tasks) (Inner G p) (dag_lines x p ss) (kids_inner G task_step p 0 d.tasks (λ j y. refl) k) (rounds_placed x (length d.tasks) k))
+          ending_topped p kind.DAG (dag_phase d ss) note.None no_outputs (computed (dag_tags ss ++ s) ds) (tasks_below x p 0 ss) (λ e. absurd (cc e)) (proper_map A (From task_at p.sels 0) (Inside p.sels) (dag_lines x p ss) (from_inside task_at task_ways p.sels 0) (rows_proper task_at task_ways p.sels (tasks_laid x p) A 0 ss (lines_proper x 0 ss (rounds_sound (length d.tasks))))) (placed_map G (Kids G task_step p 0 d.tasks) (Inner G p) (dag_lines x p ss) (kids_inner G task_step p 0 d.tasks (λ j y. refl) k) (rounds_placed x (length d.tasks) k))

@@ -33,18 +33,18 @@ use Rattle.fanout.specs.Items.{items}
 use Rattle.fanout.specs.ItemTexts.{item_tags, name_text}
 use Rattle.meaning.specs.declared.lines.Place.{Place}
 use Rattle.meaning.specs.declared.lines.Line.{Line}
-use Rattle.meaning.specs.declared.lines.Line.TheVariants.{Stands, Asks}
-use Rattle.meaning.specs.declared.lines.Made.{Made}
+use Rattle.meaning.specs.declared.lines.Line.TheVariants.{Stands}
 use Rattle.meaning.specs.Answers.{path, MemoAnswer, Answers}
-use Rattle.meaning.specs.Lines.{numbered, no_outputs, node, alone, lines_of, all_finished, tags_of}
-use Rattle.meaning.specs.Steps.{Runner}
-use Rattle.meaning.specs.Calls.{template_named, kind_of, kind_named, entered, truth_said, stopped_by, stopped_if, stopped_before_loop, stopped_at_item, unless_stopped, hook_runs, hook_place, loop_node, loop_made, item_place, behind_first, body_by, body_made, saving_if, remembered, keyed, memo_made, locked, template_by, template_made, entry, call_by, plain_call, hook_made, hooked_if, hooked, one_made, item_made, items_made, declared_by, looped, each_made, call_made, calls}
-use Rattle.meaning.specs.Trees.{workflow_tags, root, exit_root, top_call, main_made, status_tags, exit_made, exit_if, exit_of, exit_lines, running_lines, lines_locked, lines_started, lines_by, lines}
+use Rattle.meaning.specs.Lines.{Made, lines_in, numbered, no_outputs, node, alone, lines_of, all_finished, tags_of}
+use Rattle.meaning.specs.Steps.{Caller}
+use Rattle.meaning.specs.Calls.{template_named, kind_of, kind_named, template_scope, truth_said, stopped_by, stopped_if, stopped_before_loop, stopped_at_item, unless_stopped, hook_runs, hook_place, loop_node, loop_made, item_place, body_by, body_made, saving_if, remembered, keyed, memo_made, locked, template_by, template_made, entry, call_by, call_of_template, hook_made, hooked_if, hooked, one_made, item_made, items_made, declared_by, looped, each_made, call_made, calls, then_hook}
+use Rattle.meaning.specs.Trees.{globals_of, root, exit_root, top_call, main_made, status_tags, exit_made, exit_if, exit_of, exit_lines, running_lines, lines_locked, lines_started, lines_by, lines}
 use Rattle.growth.proofs.Rows.{All, all_numbered}
-use Rattle.growth.proofs.Lines.{any_left, IsAt, Unresumed, Proper, proper_append, proper_map, Nowhere, Anywhere, Under, Inside, AtChild, From, child_under, Ways, from_under, rows_proper}
+use Rattle.growth.proofs.Lines.{any_left, IsAt, Unresumed, Proper, proper_append, proper_map, Nowhere, Anywhere, Under, Inside, AtChild, From, child_under, Ways, from_under, rows_proper, Has}
 use Rattle.growth.proofs.Keeping.{At, node_at}
 use Rattle.growth.proofs.Geometry.{Descent, Geometry, Apart, Placed, placed_map, placed_append, placed_none, Inner, Top, outer, top_below, hook_below, top_apart_hook, placed_made, Kin, Kids, kids_inner, rows_placed, kin_numbers}
 use Rattle.growth.proofs.SoundBodies.{items_laid, StepsFit, DagFits, Topped, Called, topped_called, leaf_topped, alone_topped, pod_topped, retry_topped, suspend_topped, Sound, at_child, steps_topped, dag_topped}
+use Rattle.meaning.proofs.Flattening.{lines_hooked}
 
 abbrev pub item_at : ℕ → Sel
 item_at i = Item i
@@ -87,8 +87,8 @@ module _ (G : Geometry) (A : Answers) where
   items_kin : (i : ℕ) (ds : List Data) → Kin G item_step i ds
   items_kin i ds = kin_numbers G item_step (λ j d. G.item j d) (λ j k c d l. G.items j k c d l) i ds
 
-  module _ (m : Manifest) (flow : Scope) (run : Runner) (fit : TemplatesFit G m.templates) (sound : Sound G A run) where
-    body_topped : (p : Place) (s : Scope) (ds : List OutputDecl) (r : Option Retry) (b : Body) → BodyFits G b → Topped G A p (body_by m A flow run p s ds r b)
+  module _ (m : Manifest) (flow : Scope) (run : Caller) (fit : TemplatesFit G m.templates) (sound : Sound G A run) where
+    body_topped : (p : Place) (s : Scope) (ds : List OutputDecl) (r : Option Retry) (b : Body) → BodyFits G b → Topped G A p (body_by A run p s ds r b)
     body_topped p s ds None body.Pod k = pod_topped G A p ds (A.outcome p) refl
     body_topped p s ds (Some r) body.Pod k = retry_topped G A p ds r
     body_topped p s ds None (body.Steps gs) k = steps_topped G A run sound p s ds gs k
@@ -100,66 +100,59 @@ module _ (G : Geometry) (A : Answers) where
 
     -- ---- memory and locks
 
-    pub saving_topped : (p : Place) (c : Memoize) (key : List ℕ) (b : Made) (t : Bool) → Topped G A p b → Topped G A p (saving_if m A flow run t p c key b)
+    pub saving_topped : (p : Place) (c : Memoize) (key : List ℕ) (b : Made) (t : Bool) → Topped G A p b → Topped G A p (saving_if t p c key b)
     saving_topped p c key b false h = h
-    saving_topped p c key b true h =
-        let x : Line = Asks (want.Save (path p.sels) c.cache key b.outputs) in
-        let proper = subst (Proper A (Inside p.sels)) h.lines h.proper in
-        let placed = subst (Placed G (Top G p)) h.lines h.placed in
-        record {
-          first = h.first;
-          rest = x ∷ h.rest;
-          lines = ap (behind_first x) h.lines;
-          at = h.at;
-          over = h.over;
-          proper = subst (λ (ls : List Line). Proper A (Inside p.sels) (behind_first x ls)) (sym h.lines) (proper.0, (tt, proper.1));
-          placed = subst (λ (ls : List Line). Placed G (Top G p) (behind_first x ls)) (sym h.lines) (record { lies = (placed.lies.0, (tt, placed.lies.1)); apart = (λ k. alone (placed.apart.0) k, (tt, placed.apart.1)) });
-        }
+    saving_topped p c key b true h = record {
+      at = h.at;
+      over = h.over;
+      proper = (h.proper.0, (tt, h.proper.1));
+      placed = record { lies = (h.placed.lies.0, (tt, h.placed.lies.1)); apart = ((λ k. alone h.placed.apart.0 k), (tt, h.placed.apart.1)) };
+    }
       where
         alone : {X : Type 0} → (X → ⊥) → ⊥ ⊎ X → ⊥
         alone f (inl y) = y
         alone f (inr y) = f y
 
     module _ (t : Template) (fits : BodyFits G t.body) where
-      pub base_topped : (p : Place) (s : Scope) → Topped G A p (body_made m A flow run p s t)
+      pub base_topped : (p : Place) (s : Scope) → Topped G A p (body_made A run p s t)
       base_topped p s = body_topped p s t.outputs t.retry t.body fits
 
-      pub remembered_topped : (p : Place) (s : Scope) (c : Memoize) (key : List ℕ) (a : Option MemoAnswer) → A.memo p.sels ≡ a → Topped G A p (remembered m A flow run p s t c key a)
+      pub remembered_topped : (p : Place) (s : Scope) (c : Memoize) (key : List ℕ) (a : Option MemoAnswer) → A.memo p.sels ≡ a → Topped G A p (remembered A run p s t c key a)
       remembered_topped p s c key None e = leaf_topped G A p (node p (kind_of t) Pending (note.Looking c.cache) no_outputs) (want.LookUp (path p.sels) c.cache key c.max_age ∷ []) (node_at p (kind_of t) Pending (note.Looking c.cache) no_outputs) (λ _ r. absurd (cc r)) (e, tt)
-      remembered_topped p s c key (Some None) e = saving_topped p c key (body_made m A flow run p s t) (is_succeeded (body_made m A flow run p s t).phase) (base_topped p s)
+      remembered_topped p s c key (Some None) e = saving_topped p c key (body_made A run p s t) (is_succeeded (body_made A run p s t).own.node.phase) (base_topped p s)
       remembered_topped p s c key (Some (Some o)) e = leaf_topped G A p (node p (kind_of t) Succeeded (note.Hit c.cache key) o) [] (node_at p (kind_of t) Succeeded (note.Hit c.cache key) o) (λ _ r. absurd (cc r)) tt
 
-      keyed_topped : (p : Place) (s : Scope) (c : Memoize) (f : Found (List ℕ)) → Topped G A p (keyed m A flow run p s t c f)
+      keyed_topped : (p : Place) (s : Scope) (c : Memoize) (f : Found (List ℕ)) → Topped G A p (keyed A run p s t c f)
       keyed_topped p s c (Err fault) = alone_topped G A p (kind_of t) Error fault (λ r. absurd (cc r))
       keyed_topped p s c (Ok key) = remembered_topped p s c key (A.memo p.sels) refl
 
-      memo_topped : (p : Place) (s : Scope) (c : Option Memoize) → Topped G A p (memo_made m A flow run p s t c)
+      pub memo_topped : (p : Place) (s : Scope) (c : Option Memoize) → Topped G A p (memo_made A run p s t c)
       memo_topped p s None = base_topped p s
       memo_topped p s (Some c) = keyed_topped p s c (said s c.key)
 
-      pub locked_topped : (p : Place) (s : Scope) (l : LockId) (b : Bool) → A.granted p.sels ≡ b → Topped G A p (locked m A flow run p s t l b)
+      pub locked_topped : (p : Place) (s : Scope) (l : LockId) (b : Bool) → A.granted p.sels ≡ b → Topped G A p (locked A run p s t l b)
       locked_topped p s l true e = memo_topped p s t.memoize
       locked_topped p s l false e = leaf_topped G A p (node p (kind_of t) Pending (note.Waiting l) no_outputs) (want.Lock (path p.sels) l ∷ []) (node_at p (kind_of t) Pending (note.Waiting l) no_outputs) (λ _ r. absurd (cc r)) (e, tt)
 
-      template_by_topped : (p : Place) (s : Scope) (l : Option LockId) → Topped G A p (template_by m A flow run p s t l)
+      template_by_topped : (p : Place) (s : Scope) (l : Option LockId) → Topped G A p (template_by A run p s t l)
       template_by_topped p s None = memo_topped p s t.memoize
       template_by_topped p s (Some l) = locked_topped p s l (A.granted p.sels) refl
 
-      pub template_topped : (p : Place) (s : Scope) → Topped G A p (template_made m A flow run p s t)
+      pub template_topped : (p : Place) (s : Scope) → Topped G A p (template_made A run p s t)
       template_topped p s = template_by_topped p s t.lock
 
     -- ---- a call of a template, whatever follows it
 
     module _ (p : Place) (follow : Made → Made) (R : Made → Type 0) (after : (b : Made) → Topped G A p b → R (follow b)) (instead : (b : Made) → Topped G A p b → R b) where
-      entry_is : (t : Template) (f : Found Scope) → BodyFits G t.body → R (entry m A flow run p t follow f)
+      entry_is : (t : Template) (f : Found Scope) → BodyFits G t.body → R (entry A run p t follow f)
       entry_is t (Err fault) k = instead (alone p (kind_of t) Error fault) (alone_topped G A p (kind_of t) Error fault (λ r. absurd (cc r)))
-      entry_is t (Ok inner) k = after (template_made m A flow run p inner t) (template_topped t k p inner)
+      entry_is t (Ok inner) k = after (template_made A run p inner t) (template_topped t k p inner)
 
-      pub call_by_is : (s : Scope) (given : List Argument) (o : Option Template) → FoundFits G o → R (call_by m A flow run p s given follow o)
+      pub call_by_is : (s : Scope) (given : List Argument) (o : Option Template) → FoundFits G o → R (call_by A flow run p s given follow o)
       call_by_is s given None k = instead (alone p kind.Pod Error note.None) (alone_topped G A p kind.Pod Error note.None (λ r. absurd (cc r)))
-      call_by_is s given (Some t) k = entry_is t (entered flow s given t.inputs) k
+      call_by_is s given (Some t) k = entry_is t (template_scope flow s given t.inputs) k
 
-    pub plain_topped : (p : Place) (s : Scope) (n : List ℕ) (given : List Argument) → Topped G A p (plain_call m A flow run p s n given (λ x. x))
+    pub plain_topped : (p : Place) (s : Scope) (n : List ℕ) (given : List Argument) → Topped G A p (call_of_template m A flow run p s n given (λ x. x))
     plain_topped p s n given = call_by_is p (λ x. x) (Topped G A p) (λ b h. h) (λ b h. h) s given (template_named m n) (named_fits G m n fit)
 
     -- ---- hooks
@@ -173,21 +166,22 @@ module _ (G : Geometry) (A : Answers) where
         let c = topped_called G A p b top in
         let k : Made = hook_made m A flow run label p s h b in
         let d = topped_called G A (hook_place p) k (hook_topped label p s h b) in
+        let both : lines_in b ++ lines_in k ≡ lines_in (then_hook b k) = sym (lines_hooked b k) in
         record {
-          has = any_left (IsAt p.sels) b.lines k.lines c.has;
-          proper = proper_append A (Under p.sels) b.lines k.lines c.proper (proper_map A (Under (p.sels ++ Exit ∷ [])) (Under p.sels) k.lines (child_under p.sels Exit) d.proper);
-          placed = placed_append G (Top G p) (G.Below (hook_place p)) (G.Below p) b.lines k.lines (top_below G p) (hook_below G p) (top_apart_hook G p) top.placed d.placed;
+          has = subst (Has p.sels) both (any_left (IsAt p.sels) (lines_in b) (lines_in k) c.has);
+          proper = subst (Proper A (Under p.sels)) both (proper_append A (Under p.sels) (lines_in b) (lines_in k) c.proper (proper_map A (Under (p.sels ++ Exit ∷ [])) (Under p.sels) (lines_in k) (child_under p.sels Exit) d.proper));
+          placed = subst (Placed G (G.Below p)) both (placed_append G (Top G p) (G.Below (hook_place p)) (G.Below p) (lines_in b) (lines_in k) (top_below G p) (hook_below G p) (top_apart_hook G p) top.placed d.placed);
         }
 
     hooked_called : (label : List ℕ) (p : Place) (s : Scope) (h : Option Hook) (b : Made) → Topped G A p b → Called G A p (hooked m A flow run label p s h b)
     hooked_called label p s None b top = topped_called G A p b top
-    hooked_called label p s (Some h) b top = hooked_if_called label p s h b (hook_runs b.phase) top
+    hooked_called label p s (Some h) b top = hooked_if_called label p s h b (hook_runs b.own.node.phase) top
 
     -- ---- what a `when` puts in a call's place
 
     pub record Stop (p : Place) (b : Made) : Type 0 where
       pub called : Called G A p b
-      pub idle : Proper A Nowhere b.lines
+      pub idle : Proper A Nowhere (lines_in b)
 
     abbrev pub Stops : Place → Option Made → Type 0
     Stops p None = Unit {0}
@@ -219,10 +213,10 @@ module _ (G : Geometry) (A : Answers) where
     pub one_called : (prefix : List ℕ) (p : Place) (s : Scope) (c : Call) → Called G A p (one_made m A flow run prefix p s c)
     one_called prefix p s c = unless_called p (stopped_at_item p (kind_named m c.template) s c.when) _ (at_item_stops p (kind_named m c.template) s c.when) (call_by_is p (hooked m A flow run (prefix ++ c.name) p s c.exit) (Called G A p) (hooked_called (prefix ++ c.name) p s c.exit) (topped_called G A p) s c.arguments (template_named m c.template) (named_fits G m c.template fit))
 
-    pub items_proper : (prefix : List ℕ) (p : Place) (s : Scope) (c : Call) (i : ℕ) (ds : List Data) → All (λ j y. Proper A (AtChild p.sels (item_at j)) y.lines) i (numbered (item_made m A flow run prefix p s c) i ds)
-    items_proper prefix p s c i ds = all_numbered (item_made m A flow run prefix p s c) (λ j y. Proper A (AtChild p.sels (item_at j)) y.lines) i ds (λ j d. at_child G A p.sels (item_at j) (item_made m A flow run prefix p s c j d).lines (one_called prefix (item_place p j d) (item_tags d ++ s) c).proper)
+    pub items_proper : (prefix : List ℕ) (p : Place) (s : Scope) (c : Call) (i : ℕ) (ds : List Data) → All (λ j y. Proper A (AtChild p.sels (item_at j)) (lines_in y)) i (numbered (item_made m A flow run prefix p s c) i ds)
+    items_proper prefix p s c i ds = all_numbered (item_made m A flow run prefix p s c) (λ j y. Proper A (AtChild p.sels (item_at j)) (lines_in y)) i ds (λ j d. at_child G A p.sels (item_at j) (lines_in (item_made m A flow run prefix p s c j d)) (one_called prefix (item_place p j d) (item_tags d ++ s) c).proper)
 
-    loop_at : (p : Place) (ds : List OutputDecl) (ms : List Made) (b : Bool) → At p (loop_node p ds ms b)
+    pub loop_at : (p : Place) (ds : List OutputDecl) (ms : List Made) (b : Bool) → At p (loop_node p ds ms b)
     loop_at p ds ms true = record { path = refl; name = refl; depth = refl }
     loop_at p ds ms false = record { path = refl; name = refl; depth = refl }
 
@@ -244,7 +238,7 @@ module _ (G : Geometry) (A : Answers) where
     looped_called : (prefix : List ℕ) (p : Place) (s : Scope) (c : Call) (f : Found (List Data)) → Called G A p (looped m A flow run prefix p s c f)
     looped_called prefix p s c (Err fault) = topped_called G A p (alone p kind.TaskGroup Error fault) (alone_topped G A p kind.TaskGroup Error fault (λ r. absurd (cc r)))
     looped_called prefix p s c (Ok []) = topped_called G A p (alone p kind.Skipped Skipped note.NoItems) (alone_topped G A p kind.Skipped Skipped note.NoItems (λ r. absurd (cc r)))
-    looped_called prefix p s c (Ok (d ∷ ds)) = loop_called prefix p s c (declared_by m A flow run (template_named m c.template)) (d ∷ ds)
+    looped_called prefix p s c (Ok (d ∷ ds)) = loop_called prefix p s c (declared_by (template_named m c.template)) (d ∷ ds)
 
     each_called : (prefix : List ℕ) (p : Place) (s : Scope) (c : Call) (l : Option Loop) → Called G A p (each_made m A flow run prefix p s c l)
     each_called prefix p s c None = one_called prefix p s c
@@ -265,7 +259,7 @@ module _ (G : Geometry) (A : Answers) where
     top_topped flow p n = plain_topped m flow (calls m A flow 31) fit (calls_sound flow 31) p flow n m.arguments
 
     pub main_topped : Topped G A (root m) (main_made m A)
-    main_topped = top_topped (workflow_tags m) (root m) m.entrypoint
+    main_topped = top_topped (globals_of m) (root m) m.entrypoint
 
     -- the lines of the exit handler, if it runs
     pub record Exiting (ls : List Line) : Type 0 where
@@ -279,7 +273,7 @@ module _ (G : Geometry) (A : Answers) where
     exit_if_sound b true (Some n) = let c = topped_called G A (exit_root m) (exit_made m A b n) (top_topped (status_tags m b) (exit_root m) n) in record { proper = c.proper; placed = c.placed }
 
     pub exit_sound : (b : Made) → Exiting (exit_lines (exit_of m A b))
-    exit_sound b = exit_if_sound b b.finished m.on_exit
+    exit_sound b = exit_if_sound b b.own.finished m.on_exit
 
     -- lines of a whole tree
     pub record Whole (ls : List Line) : Type 0 where
@@ -296,8 +290,8 @@ module _ (G : Geometry) (A : Answers) where
         let ks = exit_lines (exit_of m A b) in
         let e = exit_sound b in
         record {
-          proper = proper_append A Anywhere b.lines ks (proper_map A (Inside (Main ∷ [])) Anywhere b.lines (λ p h. tt) main_topped.proper) (proper_map A (Under (Exit ∷ [])) Anywhere ks (λ p h. tt) e.proper);
-          apart = (placed_append G (Top G (root m)) (G.Below (exit_root m)) (λ n. Unit {0}) b.lines ks (λ n h. tt) (λ n h. tt) ends_apart main_topped.placed e.placed).apart;
+          proper = proper_append A Anywhere (lines_in b) ks (proper_map A (Inside (Main ∷ [])) Anywhere (lines_in b) (λ p h. tt) main_topped.proper) (proper_map A (Under (Exit ∷ [])) Anywhere ks (λ p h. tt) e.proper);
+          apart = (placed_append G (Top G (root m)) (G.Below (exit_root m)) (λ n. Unit {0}) (lines_in b) ks (λ n h. tt) (λ n h. tt) ends_apart main_topped.placed e.placed).apart;
         }
 
     locked_whole : (l : LockId) (t : Bool) → A.granted [] ≡ t → Whole (lines_locked m A l t)

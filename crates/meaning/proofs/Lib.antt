@@ -5,3 +5,6 @@ pub mod RowsLoops
 pub mod RowsPods
 pub mod RowsCalls
 pub mod RowsDepth
+pub mod RowsOutputs
+pub mod Flattening
+pub mod RowsParts

@@ -1,20 +1,19 @@
 -- Worked examples of conditions, locks, memoized templates and resubmissions.
 use Rattle.std.proofs.Common.{◌≡◌, refl}
 use Rattle.std.specs.Fmt.{digits}
-use Rattle.std.specs.Prelude.{List, [], ◌∷◌, Option, Some, None, codes}
+use Rattle.std.specs.Prelude.{List, [], ◌∷◌, Some, None, codes}
 use Rattle.tree_types.specs.declared.path.Sel.TheVariants.{Main, Group, Step}
 use Rattle.tree_types.specs.declared.fact.Fact.{Fact}
-use Rattle.tree_types.specs.declared.fact.Fact.TheVariants.{Started, Settled, Carried, Granted, Memo, Armed, Due}
+use Rattle.tree_types.specs.declared.fact.Fact.TheVariants.{Started, Carried, Granted, Memo, Armed, Due}
 use Rattle.tree_types.specs.declared.want.Want.TheVariants as want
 use Rattle.tag_text.specs.Parts.{parts_of}
-use Rattle.wf_manifest.specs.declared.calls.Call.{Call}
 use Rattle.wf_manifest.specs.declared.templates.Body.TheVariants as body
 use Rattle.wf_manifest.specs.declared.templates.Template.{Template}
 use Rattle.wf_manifest.specs.declared.manifest.Manifest.{Manifest}
 use Rattle.meaning.specs.Answers.{path, MemoAnswer}
 use Rattle.meaning.specs.Lines.{no_outputs}
 use Rattle.meaning.specs.Trees.{wants}
-use Rattle.meaning.proofs.Samples.{template, container, workflow_of, workflow, call, call_when, mutex, succeeded, failed, settled, printed}
+use Rattle.meaning.proofs.Samples.{template, workflow_of, workflow, call, call_when, mutex, succeeded, settled, printed}
 
 -- ---- conditions over a result
 

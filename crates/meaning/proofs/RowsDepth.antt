@@ -1,7 +1,7 @@
 -- Worked examples of deep trees.
 use Rattle.std.proofs.Common.{◌≡◌, refl}
 use Rattle.std.specs.Fmt.{digits}
-use Rattle.std.specs.Prelude.{ℕ, List, [], ◌∷◌, Bool, true, false, length, filter, map, codes}
+use Rattle.std.specs.Prelude.{ℕ, [], ◌∷◌, Bool, true, false, length, filter, map, codes}
 use Rattle.tree_types.specs.declared.phase.Phase.{Phase}
 use Rattle.tree_types.specs.declared.phase.Phase.TheVariants.{Error}
 use Rattle.tree_types.specs.declared.node.Note.{Note}

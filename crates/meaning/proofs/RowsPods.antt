@@ -1,7 +1,7 @@
 -- Worked examples of retries, suspended nodes, exit handlers and exit hooks.
 use Rattle.std.proofs.Common.{◌≡◌, refl}
 use Rattle.std.specs.Fmt.{digits}
-use Rattle.std.specs.Prelude.{ℕ, List, [], ◌∷◌, false, Some, None, codes}
+use Rattle.std.specs.Prelude.{ℕ, [], ◌∷◌, false, Some, None, codes}
 use Rattle.tree_types.specs.declared.path.Sel.TheVariants.{Main, Exit, Group, Step, Attempt}
 use Rattle.tree_types.specs.declared.fact.Fact.{Fact}
 use Rattle.tree_types.specs.declared.fact.Fact.TheVariants.{Started, Settled, Due, Armed, Resumed}
@@ -14,7 +14,7 @@ use Rattle.wf_manifest.specs.declared.templates.Body.TheVariants as body
 use Rattle.wf_manifest.specs.declared.manifest.Manifest.{Manifest}
 use Rattle.meaning.specs.Answers.{path}
 use Rattle.meaning.specs.Trees.{wants}
-use Rattle.meaning.proofs.Samples.{template, container, workflow_of, workflow, call, succeeded, failed, settled, printed}
+use Rattle.meaning.proofs.Samples.{template, workflow_of, workflow, call, succeeded, failed, settled, printed}
 
 -- ---- retries
 

@@ -1,9 +1,9 @@
 -- What the worked examples are written with: manifests, facts, and the lines of a tree.
-use Rattle.std.specs.Prelude.{ℕ, List, [], ◌∷◌, ◌++◌, false, Option, Some, None, codes, pos, refl}
+use Rattle.std.specs.Prelude.{ℕ, List, [], ◌∷◌, ◌++◌, false, Some, None, codes, pos, refl}
 use Rattle.tree_types.specs.declared.path.Sel.{Sel}
 use Rattle.tree_types.specs.declared.path.Sel.TheVariants.{Main, Task as task_sel}
 use Rattle.tree_types.specs.declared.path.LockId.{LockId}
-use Rattle.tree_types.specs.declared.phase.Phase.TheVariants.{Succeeded, Failed, Error}
+use Rattle.tree_types.specs.declared.phase.Phase.TheVariants.{Succeeded, Failed}
 use Rattle.tree_types.specs.declared.outcome.Outcome.{Outcome}
 use Rattle.tree_types.specs.declared.fact.Fact.{Fact}
 use Rattle.tree_types.specs.declared.fact.Fact.TheVariants.{Settled, Begun}
@@ -13,7 +13,6 @@ use Rattle.depends_expr.specs.Expression.{Expression}
 use Rattle.wf_manifest.specs.declared.calls.Loop.{Loop}
 use Rattle.wf_manifest.specs.declared.calls.Call.{Call}
 use Rattle.wf_manifest.specs.declared.calls.Task.{Task}
-use Rattle.wf_manifest.specs.declared.templates.Retry.{Retry}
 use Rattle.wf_manifest.specs.declared.templates.Body.{Body}
 use Rattle.wf_manifest.specs.declared.templates.Body.TheVariants as body
 use Rattle.wf_manifest.specs.declared.templates.Template.{Template}

@@ -1,5 +1,5 @@
 -- What a call makes: its condition, its loop, its arguments, the template's node, its exit hook.
-use Rattle.std.specs.Prelude.{ℕ, zero, suc, List, [], ◌∷◌, ◌++◌, Bool, true, false, not, ◌&&◌, Option, Some, None, Ok, Err, if◌then◌else◌, codes, map, bytes_eq}
+use Rattle.std.specs.Prelude.{ℕ, zero, suc, List, [], ◌∷◌, ◌++◌, Bool, true, false, not, ◌&&◌, Option, Some, None, Ok, Err, codes, map, bytes_eq}
 use Rattle.std.specs.List.{list_any, list_all, find}
 use Rattle.serde_json.specs.Data.{Data, null, string, array, Items, no_items, item}
 use Rattle.serde_json.specs.Written.{compact_text}
@@ -12,7 +12,6 @@ use Rattle.tree_types.specs.declared.node.Kind.TheVariants as kind
 use Rattle.tree_types.specs.declared.node.Note.TheVariants as note
 use Rattle.tree_types.specs.declared.node.Node.{Node}
 use Rattle.tree_types.specs.declared.outcome.Outputs.{Outputs}
-use Rattle.tree_types.specs.declared.want.Want.{Want}
 use Rattle.tree_types.specs.declared.want.Want.TheVariants as want
 use Rattle.tree_types.specs.Phases.{fulfilled, is_skipped, is_omitted, is_succeeded, is_failed, worst_of}
 use Rattle.node_names.specs.declared.seg.Seg.TheVariants as seg
@@ -36,15 +35,12 @@ use Rattle.scopes.specs.Substitution.{Found, ◌>>=◌, Scope, value_in, said, s
 use Rattle.fanout.specs.Items.{items}
 use Rattle.fanout.specs.ItemTexts.{item_tags, name_text}
 use Rattle.meaning.specs.declared.lines.Place.{Place}
-use Rattle.meaning.specs.declared.lines.Line.{Line}
-use Rattle.meaning.specs.declared.lines.Line.TheVariants.{Asks}
-use Rattle.meaning.specs.declared.lines.Made.{Made}
 use Rattle.meaning.specs.Answers.{path, MemoAnswer, Answers}
-use Rattle.meaning.specs.Lines.{numbered, below, no_outputs, node, made, alone, lines_of, all_finished, tags_of}
+use Rattle.meaning.specs.Lines.{numbered, below, Made, nothing, row_of, then_parts, no_outputs, node, made, alone, all_finished, tags_of}
 use Rattle.meaning.specs.Outputs.{param}
 use Rattle.meaning.specs.Pods.{pod_made, retry_made}
 use Rattle.meaning.specs.Suspends.{suspend_made}
-use Rattle.meaning.specs.Steps.{Runner, steps_made}
+use Rattle.meaning.specs.Steps.{Caller, steps_made}
 use Rattle.meaning.specs.Dags.{dag_made}
 
 -- ---- templates (field reference, `Template`)
@@ -85,16 +81,16 @@ arguments_said scope (a ∷ rest) = do
   Ok ((a.name, v) ∷ vs)
 
 abbrev pub value_or_default : Scope → Option (List Part) → Option (List Part) → Found (Option (List ℕ))
-value_or_default flow (Some t) default = said_option flow (Some t)
-value_or_default flow None default = said_option flow default
+value_or_default globals (Some t) default = said_option globals (Some t)
+value_or_default globals None default = said_option globals default
 
 abbrev pub input_by : Scope → Input → Option (List ℕ) → Found (Option (List ℕ))
-input_by flow i (Some v) = Ok (Some v)
-input_by flow i None = value_or_default flow i.value i.default
+input_by globals i (Some v) = Ok (Some v)
+input_by globals i None = value_or_default globals i.value i.default
 
 -- an input takes the argument of its name, else its `value`, else its `default`, in which the workflow's tags may stand
 abbrev pub input_value : Scope → Scope → Input → Found (Option (List ℕ))
-input_value flow given i = input_by flow i (value_in given i.name)
+input_value globals given i = input_by globals i (value_in given i.name)
 
 -- a valid manifest gives each input a value
 abbrev pub with_input : List ℕ → Option (List ℕ) → Scope → Scope
@@ -102,18 +98,18 @@ with_input n None rest = rest
 with_input n (Some v) rest = (codes "inputs.parameters." ++ n, v) ∷ rest
 
 abbrev pub inputs_said : Scope → Scope → List Input → Found Scope
-inputs_said flow given [] = Ok []
-inputs_said flow given (i ∷ rest) = do
-  v ← input_value flow given i
-  tags ← inputs_said flow given rest
+inputs_said globals given [] = Ok []
+inputs_said globals given (i ∷ rest) = do
+  v ← input_value globals given i
+  tags ← inputs_said globals given rest
   Ok (with_input i.name v tags)
 
 -- the scope of a template's own texts: its inputs and the workflow's tags
-abbrev pub entered : Scope → Scope → List Argument → List Input → Found Scope
-entered flow scope given inputs = do
+abbrev pub template_scope : Scope → Scope → List Argument → List Input → Found Scope
+template_scope globals scope given inputs = do
   vs ← arguments_said scope given
-  tags ← inputs_said flow vs inputs
-  Ok (tags ++ flow)
+  tags ← inputs_said globals vs inputs
+  Ok (tags ++ globals)
 
 -- ---- conditions (Argo, "Conditionals"; the language of `when` is this project's own)
 
@@ -165,9 +161,12 @@ hook_runs p = fulfilled p && not (is_skipped p) && not (is_omitted p)
 abbrev pub hook_place : Place → Place
 hook_place place = below place Exit seg.Exit
 
--- the nodes of a hook follow, and the call is finished once the hook is
+-- a hook stands behind all else below the node, and the call is finished once the hook is
 abbrev pub then_hook : Made → Made → Made
-then_hook b h = record b { lines = b.lines ++ h.lines; finished = h.finished }
+then_hook b h = record {
+  own = record b.own { finished = h.own.finished };
+  parts = then_parts b.parts (row_of (h ∷ []));
+}
 
 -- ---- loops (Argo, "Loops"; the TaskGroup node and the outputs of a looped call are this project's own)
 
@@ -181,71 +180,83 @@ abbrev pub json_text : List (Option (List ℕ)) → List ℕ
 json_text ts = compact_text (array (json_items ts))
 
 abbrev pub item_output : List Made → OutputDecl → List ℕ
-item_output ms d = json_text (map (λ m. param d.name m.outputs.params) ms)
+item_output ms d = json_text (map (λ m. param d.name m.own.node.outputs.params) ms)
 
 -- the results, and each output that the template declares, as lists in item order
 abbrev pub loop_outputs : List OutputDecl → List Made → Outputs
 loop_outputs ds ms = record {
-  result = Some (json_text (map (λ m. m.outputs.result) ms));
+  result = Some (json_text (map (λ m. m.own.node.outputs.result) ms));
   params = map (λ d. record { name = d.name; value = item_output ms d }) ds;
 }
 
 -- the worst of its children once all are finished, Running before
 abbrev pub loop_node : Place → List OutputDecl → List Made → Bool → Node
 loop_node place ds ms true =
-    node place kind.TaskGroup (worst_of (map (λ m. m.phase) ms)) note.None (loop_outputs ds ms)
+    node place kind.TaskGroup (worst_of (map (λ m. m.own.node.phase) ms)) note.None (loop_outputs ds ms)
 loop_node place ds ms false = node place kind.TaskGroup Running note.None no_outputs
 
 abbrev pub loop_made : Place → List OutputDecl → List Made → Made
-loop_made place ds ms = record (made (loop_node place ds ms (all_finished ms)) [] (lines_of ms)) {
-  any_succeeded = list_any (λ m. is_succeeded m.phase) ms;
-  all_failed = list_all (λ m. is_failed m.phase) ms;
-}
+loop_made place ds ms =
+    let n = loop_node place ds ms (all_finished ms) in
+    record {
+      own = record {
+        node = n;
+        wants = [];
+        finished = fulfilled n.phase;
+        any_succeeded = list_any (λ m. is_succeeded m.own.node.phase) ms;
+        all_failed = list_all (λ m. is_failed m.own.node.phase) ms;
+      };
+      parts = row_of ms;
+    }
+
+-- what a looped call's template declares
+abbrev pub declared_by : Option Template → List OutputDecl
+declared_by None = []
+declared_by (Some t) = t.outputs
 
 abbrev pub item_place : Place → ℕ → Data → Place
 item_place place i d = below place (Item i) (seg.Item i (name_text d))
 
+-- ---- memoized templates (Argo, "Step level memoization")
+
+-- a node that missed and then is Succeeded asks to be saved
+abbrev pub saving_if : Bool → Place → Memoize → List ℕ → Made → Made
+saving_if false place c key b = b
+saving_if true place c key b =
+    let save = want.Save (path place.sels) c.cache key b.own.node.outputs in
+    record b { own = record b.own { wants = save ∷ b.own.wants } }
+
+abbrev pub saving : Place → Memoize → List ℕ → Made → Made
+saving place c key b = saving_if (is_succeeded b.own.node.phase) place c key b
+
+-- a node whose look-up is not answered
+abbrev pub looking : Place → Template → Memoize → List ℕ → Made
+looking place t c key =
+    made (node place (kind_of t) Pending (note.Looking c.cache) no_outputs)
+    (want.LookUp (path place.sels) c.cache key c.max_age ∷ []) nothing
+
 -- ---- a call
 
--- a line right behind the first
-abbrev pub behind_first : Line → List Line → List Line
-behind_first x [] = x ∷ []
-behind_first x (l ∷ ls) = l ∷ x ∷ ls
-
-module _ (m : Manifest) (A : Answers) (flow : Scope) (run : Runner) where
+module _ (A : Answers) (called : Caller) where
   -- ---- the template's node
 
   abbrev pub body_by : Place → Scope → List OutputDecl → Option Retry → Body → Made
   body_by place scope ds None body.Pod = pod_made A place ds
   body_by place scope ds (Some r) body.Pod = retry_made A place ds r
-  body_by place scope ds r (body.Steps gs) = steps_made run place scope ds gs
-  body_by place scope ds r (body.Dag d) = dag_made A run place scope ds d
+  body_by place scope ds r (body.Steps gs) = steps_made called place scope ds gs
+  body_by place scope ds r (body.Dag d) = dag_made A called place scope ds d
   body_by place scope ds r (body.Suspend duration) = suspend_made A place scope ds duration
 
   -- a template's body, in the template's scope
   abbrev pub body_made : Place → Scope → Template → Made
   body_made place scope t = body_by place scope t.outputs t.retry t.body
 
-  -- Memoization (Argo, "Step level memoization"): a node that missed and then is Succeeded asks to be saved
-  abbrev pub saving_if : Bool → Place → Memoize → List ℕ → Made → Made
-  saving_if false place c key b = b
-  saving_if true place c key b =
-      record b { lines = behind_first (Asks (want.Save (path place.sels) c.cache key b.outputs)) b.lines }
-
-  abbrev pub saving : Place → Memoize → List ℕ → Made → Made
-  saving place c key b = saving_if (is_succeeded b.phase) place c key b
-
-  abbrev pub looking : Place → Template → Memoize → List ℕ → Made
-  looking place t c key =
-      made (node place (kind_of t) Pending (note.Looking c.cache) no_outputs)
-      (want.LookUp (path place.sels) c.cache key c.max_age ∷ []) []
-
   -- no answer is recorded, a miss is, or a hit
   abbrev pub remembered : Place → Scope → Template → Memoize → List ℕ → Option MemoAnswer → Made
   remembered place scope t c key None = looking place t c key
   remembered place scope t c key (Some None) = saving place c key (body_made place scope t)
   remembered place scope t c key (Some (Some kept)) =
-      made (node place (kind_of t) Succeeded (note.Hit c.cache key) kept) [] []
+      made (node place (kind_of t) Succeeded (note.Hit c.cache key) kept) [] nothing
 
   abbrev pub keyed : Place → Scope → Template → Memoize → Found (List ℕ) → Made
   keyed place scope t c (Err fault) = alone place (kind_of t) Error fault
@@ -258,7 +269,7 @@ module _ (m : Manifest) (A : Answers) (flow : Scope) (run : Runner) where
   -- Synchronization (Argo, "Template-level synchronization"): a node waits until its lock is granted
   abbrev pub locked : Place → Scope → Template → LockId → Bool → Made
   locked place scope t l false =
-      made (node place (kind_of t) Pending (note.Waiting l) no_outputs) (want.Lock (path place.sels) l ∷ []) []
+      made (node place (kind_of t) Pending (note.Waiting l) no_outputs) (want.Lock (path place.sels) l ∷ []) nothing
   locked place scope t l true = memo_made place scope t t.memoize
 
   abbrev pub template_by : Place → Scope → Template → Option LockId → Made
@@ -275,17 +286,21 @@ module _ (m : Manifest) (A : Answers) (flow : Scope) (run : Runner) where
   entry place t follow (Err fault) = alone place (kind_of t) Error fault
   entry place t follow (Ok inner) = follow (template_made place inner t)
 
+module _ (A : Answers) (globals : Scope) (called : Caller) where
   abbrev pub call_by : Place → Scope → List Argument → (Made → Made) → Option Template → Made
   call_by place scope given follow None = alone place kind.Pod Error note.None
-  call_by place scope given follow (Some t) = entry place t follow (entered flow scope given t.inputs)
+  call_by place scope given follow (Some t) =
+      entry A called place t follow (template_scope globals scope given t.inputs)
 
-  abbrev pub plain_call : Place → Scope → List ℕ → List Argument → (Made → Made) → Made
-  plain_call place scope name given follow = call_by place scope given follow (template_named m name)
+module _ (m : Manifest) (A : Answers) (globals : Scope) (called : Caller) where
+  abbrev pub call_of_template : Place → Scope → List ℕ → List Argument → (Made → Made) → Made
+  call_of_template place scope name given follow =
+      call_by A globals called place scope given follow (template_named m name)
 
   -- a hook's arguments may name the tags of its own step or task
   abbrev pub hook_made : List ℕ → Place → Scope → Hook → Made → Made
   hook_made label place scope h b =
-      plain_call (hook_place place) (tags_of label b ++ scope) h.template h.arguments (λ x. x)
+      call_of_template (hook_place place) (tags_of label b ++ scope) h.template h.arguments (λ x. x)
 
   abbrev pub hooked_if : Bool → List ℕ → Place → Scope → Hook → Made → Made
   hooked_if false label place scope h b = b
@@ -293,7 +308,7 @@ module _ (m : Manifest) (A : Answers) (flow : Scope) (run : Runner) where
 
   abbrev pub hooked : List ℕ → Place → Scope → Option Hook → Made → Made
   hooked label place scope None b = b
-  hooked label place scope (Some h) b = hooked_if (hook_runs b.phase) label place scope h b
+  hooked label place scope (Some h) b = hooked_if (hook_runs b.own.node.phase) label place scope h b
 
   -- ---- a call as a whole
 
@@ -301,17 +316,13 @@ module _ (m : Manifest) (A : Answers) (flow : Scope) (run : Runner) where
   abbrev pub one_made : List ℕ → Place → Scope → Call → Made
   one_made prefix place scope c =
       unless_stopped (stopped_at_item place (kind_named m c.template) scope c.when)
-      (plain_call place scope c.template c.arguments (hooked (prefix ++ c.name) place scope c.exit))
+      (call_of_template place scope c.template c.arguments (hooked (prefix ++ c.name) place scope c.exit))
 
   abbrev pub item_made : List ℕ → Place → Scope → Call → ℕ → Data → Made
   item_made prefix place scope c i d = one_made prefix (item_place place i d) (item_tags d ++ scope) c
 
   abbrev pub items_made : List ℕ → Place → Scope → Call → List Data → List Made
   items_made prefix place scope c ds = numbered (item_made prefix place scope c) 0 ds
-
-  abbrev pub declared_by : Option Template → List OutputDecl
-  declared_by None = []
-  declared_by (Some t) = t.outputs
 
   abbrev pub looped : List ℕ → Place → Scope → Call → Found (List Data) → Made
   looped prefix place scope c (Err fault) = alone place kind.TaskGroup Error fault
@@ -324,13 +335,13 @@ module _ (m : Manifest) (A : Answers) (flow : Scope) (run : Runner) where
   each_made prefix place scope c (Some l) = looped prefix place scope c (items scope l)
 
   -- first the `when` without an item tag, then the loop, then each item
-  abbrev pub call_made : Runner
+  abbrev pub call_made : Caller
   call_made prefix place scope c =
       unless_stopped (stopped_before_loop place (kind_named m c.template) scope c.when)
       (each_made prefix place scope c c.each)
 
-module _ (m : Manifest) (A : Answers) (flow : Scope) where
+module _ (m : Manifest) (A : Answers) (globals : Scope) where
   -- a call below which so many further depths may be called; the next one is too deep
-  abbrev pub calls : ℕ → Runner
+  abbrev pub calls : ℕ → Caller
   calls zero = λ prefix place scope c. alone place (kind_named m c.template) Error note.TooDeep
-  calls (suc n) = call_made m A flow (calls n)
+  calls (suc n) = call_made m A globals (calls n)

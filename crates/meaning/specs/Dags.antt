@@ -19,13 +19,10 @@ use Rattle.wf_manifest.specs.declared.calls.Task.{Task}
 use Rattle.wf_manifest.specs.declared.calls.Dag.{Dag}
 use Rattle.scopes.specs.Substitution.{Scope}
 use Rattle.meaning.specs.declared.lines.Place.{Place}
-use Rattle.meaning.specs.declared.lines.Line.{Line}
-use Rattle.meaning.specs.declared.lines.Line.TheVariants.{MayBegin}
-use Rattle.meaning.specs.declared.lines.Made.{Made}
 use Rattle.meaning.specs.Answers.{path, Answers}
-use Rattle.meaning.specs.Lines.{numbered, below, no_outputs, made, alone, tags_of}
-use Rattle.meaning.specs.Outputs.{computed, ending}
-use Rattle.meaning.specs.Steps.{Runner, covers_failed, covers_error, covered}
+use Rattle.meaning.specs.Lines.{numbered, below, Made, Parts, nothing, call, may_begin, no_outputs, made, alone, tags_of}
+use Rattle.meaning.specs.Outputs.{computed, ended_node}
+use Rattle.meaning.specs.Steps.{Caller, covers_failed, covers_error, covered}
 
 abbrev pub Names : Type 0
 Names = List (List ℕ)
@@ -118,7 +115,7 @@ pub data Standing : Type 0 where
   exists : Made → Phase → Scope → Standing
 
 abbrev pub is_over : Standing → Bool
-is_over (exists m branch seen) = m.finished
+is_over (exists m branch seen) = m.own.finished
 is_over _ = false
 
 abbrev pub no_result : TaskResult
@@ -134,13 +131,13 @@ no_result = record {
 
 abbrev pub result_of_made : Made → TaskResult
 result_of_made m = record {
-  succeeded = is_succeeded m.phase;
-  failed = is_failed m.phase;
-  errored = is_error m.phase;
-  skipped = is_skipped m.phase;
-  omitted = is_omitted m.phase;
-  any_succeeded = m.any_succeeded;
-  all_failed = m.all_failed;
+  succeeded = is_succeeded m.own.node.phase;
+  failed = is_failed m.own.node.phase;
+  errored = is_error m.own.node.phase;
+  skipped = is_skipped m.own.node.phase;
+  omitted = is_omitted m.own.node.phase;
+  any_succeeded = m.own.any_succeeded;
+  all_failed = m.own.all_failed;
 }
 
 abbrev pub result_of : Standing → TaskResult
@@ -184,12 +181,12 @@ tags_before at ns = flat_map (λ n. tags_up_to n (at n)) ns
 abbrev pub worst_branch : Look → Names → Phase
 worst_branch at ns = worst_of (map (λ n. branch_of (at n)) ns)
 
-module _ (A : Answers) (run : Runner) (place : Place) (scope : Scope) (d : Dag) where
+module _ (A : Answers) (called : Caller) (place : Place) (scope : Scope) (d : Dag) where
   -- a task that begins, in the scope of its ancestors; its branch phase is the phase as its `continueOn` covers it
   abbrev pub begins : Scope → ℕ → Task → Standing
   begins seen i t =
-      let m = run (codes "tasks.") (task_place place i t) (seen ++ scope) t.call in
-      exists m (covered t.call.continue_on m.phase) seen
+      let m = called (codes "tasks.") (task_place place i t) (seen ++ scope) t.call in
+      exists m (covered t.call.continue_on m.own.node.phase) seen
 
   abbrev pub free_by : Scope → ℕ → Task → Bool → Standing
   free_by seen i t false = ready
@@ -264,7 +261,7 @@ abbrev pub is_doomed : Dag → Standings → Bool
 is_doomed d ss = d.fail_fast && list_any has_failed (targets d ss)
 
 abbrev pub is_at_rest : Standing → Bool
-is_at_rest (exists m branch seen) = m.finished
+is_at_rest (exists m branch seen) = m.own.finished
 is_at_rest _ = true
 
 abbrev pub may_go_on : Dag → Standings → Bool
@@ -278,25 +275,25 @@ dag_over d ss = list_all (λ s. is_at_rest s.1) ss && not (may_go_on d ss)
 abbrev pub dag_phase : Dag → Standings → Phase
 dag_phase d ss = if dag_over d ss then worst_of (map branch_of (targets d ss)) else Running
 
--- a ready task of a DAG that is not doomed may begin
-abbrev pub standing_lines : Bool → Place → Standing → List Line
-standing_lines doomed at (exists m branch seen) = m.lines
-standing_lines false at ready = MayBegin (path at.sels) ∷ []
-standing_lines doomed at _ = []
+-- what stands for a task, before more: what it made, or that it may begin, as a ready task of a DAG that is not doomed
+abbrev pub task_then : Bool → Place → Standing → Parts → Parts
+task_then doomed at (exists m branch seen) more = call m.own m.parts more
+task_then false at ready more = may_begin (path at.sels) more
+task_then doomed at _ more = more
 
-abbrev pub task_lines : Bool → Place → ℕ → Task × Standing → List Line
-task_lines doomed place i s = standing_lines doomed (task_place place i s.0) s.1
-
-abbrev pub dag_lines : Bool → Place → Standings → List Line
-dag_lines doomed place ss = flat_map (λ ls. ls) (numbered (task_lines doomed place) 0 ss)
+-- the tasks from task i on
+abbrev pub tasks_below : Bool → Place → ℕ → Standings → Parts
+tasks_below doomed place i [] = nothing
+tasks_below doomed place i (s ∷ ss) =
+    task_then doomed (task_place place i s.0) s.1 (tasks_below doomed place (suc i) ss)
 
 abbrev pub dag_tags : Standings → Scope
 dag_tags ss = flat_map (λ s. own_tags s.0.call.name s.1) ss
 
 abbrev pub dag_by : Place → Scope → List OutputDecl → Dag → Standings → Made
 dag_by place scope declared d ss =
-    made (ending place kind.DAG (dag_phase d ss) note.None no_outputs (computed (dag_tags ss ++ scope) declared)) []
-    (dag_lines (is_doomed d ss) place ss)
+    made (ended_node place kind.DAG (dag_phase d ss) note.None no_outputs (computed (dag_tags ss ++ scope) declared)) []
+    (tasks_below (is_doomed d ss) place 0 ss)
 
-abbrev pub dag_made : Answers → Runner → Place → Scope → List OutputDecl → Dag → Made
-dag_made A run place scope declared d = dag_by place scope declared d (standings A run place scope d)
+abbrev pub dag_made : Answers → Caller → Place → Scope → List OutputDecl → Dag → Made
+dag_made A called place scope declared d = dag_by place scope declared d (standings A called place scope d)

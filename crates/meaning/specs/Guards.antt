@@ -1,5 +1,5 @@
 -- Which paths carry a lock, and which paths a lock guards: read off the manifest alone, selector by selector (own).
-use Rattle.std.specs.Prelude.{ℕ, List, [], ◌∷◌, Bool, true, false, not, ◌&&◌, Option, Some, None, fold, slice_get, option_and_then}
+use Rattle.std.specs.Prelude.{ℕ, List, [], ◌∷◌, Bool, true, false, not, ◌&&◌, Option, Some, None, fold, slice_get}
 use Rattle.tree_types.specs.declared.path.Sel.{Sel}
 use Rattle.tree_types.specs.declared.path.Sel.TheVariants.{Main, Exit, Group, Step, Task, Item}
 use Rattle.tree_types.specs.declared.path.LockId.{LockId}

@@ -11,8 +11,9 @@ use Rattle.tree_types.specs.declared.outcome.Param.{Param}
 use Rattle.tree_types.specs.declared.outcome.Outputs.{Outputs}
 use Rattle.tag_text.specs.declared.part.Part.{Part}
 use Rattle.wf_manifest.specs.declared.templates.OutputDecl.{OutputDecl}
-use Rattle.scopes.specs.Substitution.{Found, ◌>>=◌, Scope, said}
+use Rattle.scopes.specs.Substitution.{Found, Scope, said}
 use Rattle.meaning.specs.declared.lines.Place.{Place}
+use Rattle.meaning.specs.Answers.{first_or}
 use Rattle.meaning.specs.Lines.{node}
 
 -- the value of the first parameter of this name
@@ -20,58 +21,80 @@ abbrev pub param : List ℕ → List Param → Option (List ℕ)
 param n [] = None
 param n (p ∷ ps) = if bytes_eq p.name n then Some p.value else param n ps
 
-abbrev pub default_or_lack : List ℕ → Option (List ℕ) → Found (List ℕ)
-default_or_lack name (Some v) = Ok v
-default_or_lack name None = Err (note.NoOutput name)
+-- ---- two readings of declared outputs, each of which has a value or none
 
--- `valueFrom.default`, or the lack of this output
-abbrev pub default_of : OutputDecl → Found (List ℕ)
-default_of d = default_or_lack d.name d.default
+abbrev pub with_value : List ℕ → Option (List ℕ) → List Param → List Param
+with_value name None rest = rest
+with_value name (Some v) rest = record { name = name; value = v } ∷ rest
 
-abbrev pub with_param : Outputs → List ℕ → List ℕ → Outputs
-with_param o n v = record o { params = o.params ++ record { name = n; value = v } ∷ [] }
+-- those that have a value, in the order of their declarations
+abbrev pub found : (OutputDecl → Option (List ℕ)) → List OutputDecl → List Param
+found value [] = []
+found value (d ∷ ds) = with_value d.name (value d) (found value ds)
+
+abbrev pub lack_by : List ℕ → Option (List ℕ) → Option (List ℕ) → Option (List ℕ)
+lack_by name None rest = Some name
+lack_by name (Some v) rest = rest
+
+-- the name of the first that has none
+abbrev pub first_lack : (OutputDecl → Option (List ℕ)) → List OutputDecl → Option (List ℕ)
+first_lack value [] = None
+first_lack value (d ∷ ds) = lack_by d.name (value d) (first_lack value ds)
+
+-- the outputs of a node that would be Succeeded, and the first declared output that it lacks
+pub record Ending : Type 0 where
+  pub outputs : Outputs
+  pub lack : Option (List ℕ)
+
+abbrev pub ending_with : (OutputDecl → Option (List ℕ)) → List OutputDecl → Ending
+ending_with value ds = record { outputs = record { result = None; params = found value ds }; lack = first_lack value ds }
 
 -- ---- a pod: its outcome's outputs, and behind them the defaults of those that it lacks
 
--- one declared output is there, or takes its default; then the rest
-abbrev pub completed_by : OutputDecl → Outputs → (Outputs → Found Outputs) → Option (List ℕ) → Found Outputs
-completed_by d o rest (Some v) = rest o
-completed_by d o rest None = default_of d >>= λ v. rest (with_param o d.name v)
+-- an output that the outcome has, else its default
+abbrev pub given_or_default : List Param → OutputDecl → Option (List ℕ)
+given_or_default ps d = first_or (param d.name ps) d.default
 
-abbrev pub completed : List OutputDecl → Outputs → Found Outputs
-completed [] o = Ok o
-completed (d ∷ ds) o = completed_by d o (λ all. completed ds all) (param d.name o.params)
+abbrev pub none_if_given : Option (List ℕ) → Option (List ℕ) → Option (List ℕ)
+none_if_given (Some v) default = None
+none_if_given None default = default
 
--- ---- steps, DAGs and suspend nodes: `valueFrom.parameter`, else the default
+-- the default of an output that the outcome lacks
+abbrev pub default_alone : List Param → OutputDecl → Option (List ℕ)
+default_alone ps d = none_if_given (param d.name ps) d.default
 
-abbrev pub said_or_default : OutputDecl → Found (List ℕ) → Found (List ℕ)
-said_or_default d (Ok v) = Ok v
-said_or_default d (Err fault) = default_of d
+abbrev pub completed : List OutputDecl → Outputs → Ending
+completed ds o = record {
+  outputs = record o { params = o.params ++ found (default_alone o.params) ds };
+  lack = first_lack (given_or_default o.params) ds;
+}
 
-abbrev pub output_by : Scope → OutputDecl → Option (List Part) → Found (List ℕ)
-output_by scope d None = default_of d
-output_by scope d (Some t) = said_or_default d (said scope t)
+-- ---- steps and DAGs: `valueFrom.parameter` where its tags have values, else its default
 
-abbrev pub output_value : Scope → OutputDecl → Found (List ℕ)
-output_value scope d = output_by scope d d.from
+abbrev pub or_default : Option (List ℕ) → Found (List ℕ) → Option (List ℕ)
+or_default default (Ok v) = Some v
+or_default default (Err fault) = default
 
--- the declared outputs in their order
-abbrev pub output_params : Scope → List OutputDecl → Found (List Param)
-output_params scope [] = Ok []
-output_params scope (d ∷ ds) = do
-  v ← output_value scope d
-  ps ← output_params scope ds
-  Ok (record { name = d.name; value = v } ∷ ps)
+abbrev pub from_or_default : Scope → Option (List ℕ) → Option (List Part) → Option (List ℕ)
+from_or_default scope default None = default
+from_or_default scope default (Some t) = or_default default (said scope t)
 
-abbrev pub outputs_with : List Param → Outputs
-outputs_with ps = record { result = None; params = ps }
+abbrev pub computed : Scope → List OutputDecl → Ending
+computed scope ds = ending_with (λ d. from_or_default scope d.default d.from) ds
 
-abbrev pub computed : Scope → List OutputDecl → Found Outputs
-computed scope ds = output_params scope ds >>= λ ps. Ok (outputs_with ps)
+-- ---- suspended nodes: their defaults
+
+abbrev pub defaulted : List OutputDecl → Ending
+defaulted ds = ending_with (λ d. d.default) ds
 
 -- ---- a node that would end so: it is Succeeded only with its declared outputs
+
 -- one that lacks an output is Error, and keeps the outputs that it has
-abbrev pub ending : Place → Kind → Phase → Note → Outputs → Found Outputs → Node
-ending place k Succeeded n outputs (Ok declared) = node place k Succeeded n declared
-ending place k Succeeded n outputs (Err lack) = node place k Error lack outputs
-ending place k phase n outputs declared = node place k phase n outputs
+abbrev pub succeeded_node : Place → Kind → Note → Outputs → Option (List ℕ) → Node
+succeeded_node place k n outputs None = node place k Succeeded n outputs
+succeeded_node place k n outputs (Some name) = node place k Error (note.NoOutput name) outputs
+
+-- in any other phase it has the outputs given first
+abbrev pub ended_node : Place → Kind → Phase → Note → Outputs → Ending → Node
+ended_node place k Succeeded n outputs e = succeeded_node place k n e.outputs e.lack
+ended_node place k phase n outputs e = node place k phase n outputs

@@ -1,11 +1,9 @@
 -- Plain workflows: their tree follows from planned outcomes alone (own).
 use Rattle.std.specs.Prelude.{ℕ, List, Bool, true, false, not, ◌&&◌, Option, Some, None, is_none, option_map}
 use Rattle.std.specs.List.{list_all}
-use Rattle.tree_types.specs.declared.node.Note.{Note}
 use Rattle.tree_types.specs.declared.node.Note.TheVariants as note
 use Rattle.tree_types.specs.declared.node.Node.{Node}
 use Rattle.tree_types.specs.declared.outcome.Outcome.{Outcome}
-use Rattle.wf_manifest.specs.declared.templates.Backoff.{Backoff}
 use Rattle.wf_manifest.specs.declared.templates.Retry.{Retry}
 use Rattle.wf_manifest.specs.declared.templates.Body.{Body}
 use Rattle.wf_manifest.specs.declared.templates.Body.TheVariants as body

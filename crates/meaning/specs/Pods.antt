@@ -1,7 +1,7 @@
 -- Pods, and the attempts of a pod with a retry
 -- (Argo, "Retrying failed or errored steps"; field reference, `RetryStrategy`).
 -- Due ticks, 100 attempts without a limit, and what is transient are this project's own.
-use Rattle.std.specs.Prelude.{ℕ, zero, suc, ◌-◌, List, [], ◌∷◌, ◌++◌, Bool, true, false, not, ◌&&◌, ◌||◌, nat_le, Option, Some, None, length, map}
+use Rattle.std.specs.Prelude.{ℕ, zero, suc, ◌-◌, List, [], ◌∷◌, Bool, true, false, not, ◌&&◌, ◌||◌, nat_le, Option, Some, None, length}
 use Rattle.tree_types.specs.declared.path.Sel.TheVariants.{Attempt}
 use Rattle.tree_types.specs.declared.phase.Phase.{Phase}
 use Rattle.tree_types.specs.declared.phase.Phase.TheVariants.{Running}
@@ -22,11 +22,9 @@ use Rattle.wf_manifest.specs.declared.templates.Backoff.{Backoff}
 use Rattle.wf_manifest.specs.declared.templates.Retry.{Retry}
 use Rattle.time_text.specs.Durations.{delay}
 use Rattle.meaning.specs.declared.lines.Place.{Place}
-use Rattle.meaning.specs.declared.lines.Line.TheVariants.{Asks}
-use Rattle.meaning.specs.declared.lines.Made.{Made}
 use Rattle.meaning.specs.Answers.{path, Answers}
-use Rattle.meaning.specs.Lines.{later, below, no_outputs, node, made, lines_of}
-use Rattle.meaning.specs.Outputs.{completed, ending}
+use Rattle.meaning.specs.Lines.{later, below, Made, nothing, row_of, asked, then_parts, no_outputs, node, made}
+use Rattle.meaning.specs.Outputs.{completed, ended_node}
 
 -- ---- a pod
 
@@ -36,10 +34,10 @@ outputs_of o = record { result = o.result; params = o.params }
 -- a pod that ended so
 abbrev pub ended_pod : Place → List OutputDecl → Note × Outcome → Made
 ended_pod place declared o =
-    made (ending place kind.Pod o.1.phase o.0 (outputs_of o.1) (completed declared (outputs_of o.1))) [] []
+    made (ended_node place kind.Pod o.1.phase o.0 (outputs_of o.1) (completed declared (outputs_of o.1))) [] nothing
 
 abbrev pub running_pod : Place → Made
-running_pod place = made (node place kind.Pod Running note.None no_outputs) (want.Pod (path place.sels) ∷ []) []
+running_pod place = made (node place kind.Pod Running note.None no_outputs) (want.Pod (path place.sels) ∷ []) nothing
 
 abbrev pub pod_by : Place → List OutputDecl → Option (Note × Outcome) → Made
 pod_by place declared None = running_pod place
@@ -110,62 +108,67 @@ abbrev pub first_begin : Option ℕ → Outcome → ℕ
 first_begin None o = o.begin
 first_begin (Some tick) o = tick
 
+-- the place of attempt k
+abbrev pub attempt : Place → ℕ → Place
+attempt place k = below place (Attempt k) (seg.Attempt k)
+
+-- the timer that the next attempt asks for, whose number is how many there are
+abbrev pub next_timer : Place → List Made → Option ℕ → List Want
+next_timer place ms None = []
+next_timer place ms (Some tick) = want.Timer (path (attempt place (length ms)).sels) tick ∷ []
+
+-- it has the last attempt's phase and outputs once no further one can follow
+abbrev pub retry_node : Place → Attempts → Bool → Node
+retry_node place a true = node place kind.Retry a.last.own.node.phase note.None a.last.own.node.outputs
+retry_node place a false = node place kind.Retry Running note.None no_outputs
+
+abbrev pub retry_by : Place → Attempts → Made
+retry_by place a =
+    made (retry_node place a a.over) [] (then_parts (row_of a.all) (asked (next_timer place a.all a.next)))
+
+abbrev pub ended_attempt : Place → List OutputDecl → ℕ → Note × Outcome → Made
+ended_attempt place declared k o = ended_pod (attempt place k) declared o
+
+-- policy and `maxDuration` let a further attempt follow attempt k
+abbrev pub follows : Place → List OutputDecl → Retry → Note × Outcome → ℕ → ℕ → Bool
+follows place declared r o k begin =
+    retries r.policy (ended_attempt place declared k o).own.node.phase (is_transient o.1)
+    && time_left r.backoff begin o.1.finish
+
+-- attempt k may start: its timer was due, or it needs none
+abbrev pub may_start : Answers → Place → Option Backoff → ℕ → Bool
+may_start A place None k = true
+may_start A place (Some b) k = A.due (attempt place k).sels
+
 module _ (A : Answers) (place : Place) (declared : List OutputDecl) (r : Retry) where
-  -- the place of attempt k
-  abbrev pub attempt : ℕ → Place
-  attempt k = below place (Attempt k) (seg.Attempt k)
-
-  -- attempt k may start: its timer was due, or it needs none
-  abbrev pub may_start : Option Backoff → ℕ → Bool
-  may_start None k = true
-  may_start (Some b) k = A.due (attempt k).sels
-
-  abbrev pub ended_attempt : ℕ → Note × Outcome → Made
-  ended_attempt k o = ended_pod (attempt k) declared o
-
   -- attempt k, which a further one follows: it waits for its tick, or starts
   abbrev pub started_by : ℕ → Note × Outcome → ℕ → (ℕ → Attempts) → Bool → Attempts
-  started_by k o begin rest false = waits_for (ended_attempt k o) (due_tick r.backoff o.1.finish (suc k))
-  started_by k o begin rest true = before_attempts (ended_attempt k o) (rest begin)
+  started_by k o begin rest false =
+      waits_for (ended_attempt place declared k o) (due_tick r.backoff o.1.finish (suc k))
+  started_by k o begin rest true = before_attempts (ended_attempt place declared k o) (rest begin)
 
   -- attempt k, and whether a further one follows it
   abbrev pub retried_by : ℕ → Note × Outcome → ℕ → (ℕ → Attempts) → Bool → Attempts
-  retried_by k o begin rest false = ends_with (ended_attempt k o) true
-  retried_by k o begin rest true = started_by k o begin rest (may_start r.backoff (suc k))
-
-  -- policy and `maxDuration` let a further attempt follow attempt k
-  abbrev pub follows : Note × Outcome → ℕ → ℕ → Bool
-  follows o k begin =
-      retries r.policy (ended_attempt k o).phase (is_transient o.1) && time_left r.backoff begin o.1.finish
+  retried_by k o begin rest false = ends_with (ended_attempt place declared k o) true
+  retried_by k o begin rest true = started_by k o begin rest (may_start A place r.backoff (suc k))
 
   abbrev pub attempt_by : ℕ → Option ℕ → (ℕ → Attempts) → Option (Note × Outcome) → Attempts
-  attempt_by k first rest None = ends_with (running_pod (attempt k)) false
+  attempt_by k first rest None = ends_with (running_pod (attempt place k)) false
   attempt_by k first rest (Some o) =
-      retried_by k o (first_begin first o.1) rest (follows o k (first_begin first o.1))
+      retried_by k o (first_begin first o.1) rest (follows place declared r o k (first_begin first o.1))
 
   -- the attempts from attempt k on, which n may follow
   -- `first` is the tick at which the first began, where it has ended
   abbrev pub attempts_from : ℕ → ℕ → Option ℕ → Attempts
-  attempts_from zero k first = ends_with (pod_made A (attempt k) declared) (pod_made A (attempt k) declared).finished
+  attempts_from zero k first =
+      let m = pod_made A (attempt place k) declared in
+      ends_with m m.own.finished
   attempts_from (suc n) k first =
-      attempt_by k first (λ begin. attempts_from n (suc k) (Some begin)) (A.outcome (attempt k))
+      attempt_by k first (λ begin. attempts_from n (suc k) (Some begin)) (A.outcome (attempt place k))
 
   abbrev pub attempts : Attempts
   attempts = attempts_from (further r) 0 None
 
-  -- the timer that the next attempt asks for, whose number is how many there are
-  abbrev pub next_timer : List Made → Option ℕ → List Want
-  next_timer ms None = []
-  next_timer ms (Some tick) = want.Timer (path (attempt (length ms)).sels) tick ∷ []
-
-  -- it has the last attempt's phase and outputs once no further one can follow
-  abbrev pub retry_node : Attempts → Bool → Node
-  retry_node a true = node place kind.Retry a.last.phase note.None a.last.outputs
-  retry_node a false = node place kind.Retry Running note.None no_outputs
-
-  abbrev pub retry_by : Attempts → Made
-  retry_by a = made (retry_node a a.over) [] (lines_of a.all ++ map Asks (next_timer a.all a.next))
-
   -- a pod with a retry: its Retry node, and its attempts below
   abbrev pub retry_made : Made
-  retry_made = retry_by attempts
+  retry_made = retry_by place attempts

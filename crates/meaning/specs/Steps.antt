@@ -14,13 +14,12 @@ use Rattle.wf_manifest.specs.declared.calls.ContinueOn.{ContinueOn}
 use Rattle.wf_manifest.specs.declared.calls.Call.{Call}
 use Rattle.scopes.specs.Substitution.{Scope}
 use Rattle.meaning.specs.declared.lines.Place.{Place}
-use Rattle.meaning.specs.declared.lines.Made.{Made}
-use Rattle.meaning.specs.Lines.{numbered, below, no_outputs, node, made, lines_of, all_finished, tags_of}
-use Rattle.meaning.specs.Outputs.{computed, ending}
+use Rattle.meaning.specs.Lines.{numbered, below, Made, row_of, no_outputs, node, made, all_finished, tags_of}
+use Rattle.meaning.specs.Outputs.{computed, ended_node}
 
 -- what a call makes: with the prefix of its tags, at a place, in a scope
-abbrev pub Runner : Type 0
-Runner = List ℕ → Place → Scope → Call → Made
+abbrev pub Caller : Type 0
+Caller = List ℕ → Place → Scope → Call → Made
 
 -- ---- what a phase counts above (field reference, `ContinueOn`)
 
@@ -48,9 +47,9 @@ Member = Call × Made
 abbrev pub member_place : Place → ℕ → Call → Place
 member_place group i c = below group (Step i) (seg.Call c.name)
 
-module _ (run : Runner) where
+module _ (called : Caller) where
   abbrev pub member : Place → Scope → ℕ → Call → Member
-  member group scope i c = (c, run (codes "steps.") (member_place group i c) scope c)
+  member group scope i c = (c, called (codes "steps.") (member_place group i c) scope c)
 
   abbrev pub members : Place → Scope → List Call → List Member
   members group scope cs = numbered (member group scope) 0 cs
@@ -60,7 +59,7 @@ makings ms = map (λ m. m.1) ms
 
 -- the phase of a member as its group sees it
 abbrev pub member_phase : Member → Phase
-member_phase m = covered m.0.continue_on m.1.phase
+member_phase m = covered m.0.continue_on m.1.own.node.phase
 
 -- the worst of its members once all are finished, Running before
 abbrev pub group_phase : List Member → Phase
@@ -68,7 +67,7 @@ group_phase ms = if all_finished (makings ms) then worst_of (map member_phase ms
 
 abbrev pub group_made : Place → List Member → Made
 group_made place ms =
-    made (node place kind.StepGroup (group_phase ms) note.None no_outputs) [] (lines_of (makings ms))
+    made (node place kind.StepGroup (group_phase ms) note.None no_outputs) [] (row_of (makings ms))
 
 abbrev pub group_tags : List Member → Scope
 group_tags ms = flat_map (λ m. tags_of (codes "steps." ++ m.0.name) m.1) ms
@@ -91,9 +90,9 @@ abbrev pub groups_by : Made → Scope → Scope → (Scope → Groups) → Bool 
 groups_by g tags scope rest true = before_groups g (rest (tags ++ scope))
 groups_by g tags scope rest false = record { all = g ∷ []; scope = tags ++ scope }
 
-module _ (run : Runner) (place : Place) where
+module _ (called : Caller) (place : Place) where
   abbrev pub members_at : ℕ → Scope → List Call → List Member
-  members_at i scope cs = members run (group_place place i) scope cs
+  members_at i scope cs = members called (group_place place i) scope cs
 
   -- the groups from group i on
   abbrev pub groups_from : ℕ → Scope → List (List Call) → Groups
@@ -106,12 +105,12 @@ module _ (run : Runner) (place : Place) where
 -- the phase of the first group that did not succeed, else Succeeded
 abbrev pub steps_phase : List Made → Phase
 steps_phase [] = Succeeded
-steps_phase (g ∷ gs) = if is_succeeded g.phase then steps_phase gs else g.phase
+steps_phase (g ∷ gs) = if is_succeeded g.own.node.phase then steps_phase gs else g.own.node.phase
 
 abbrev pub steps_by : Place → List OutputDecl → Groups → Made
 steps_by place declared groups =
-    made (ending place kind.Steps (steps_phase groups.all) note.None no_outputs (computed groups.scope declared)) []
-    (lines_of groups.all)
+    made (ended_node place kind.Steps (steps_phase groups.all) note.None no_outputs (computed groups.scope declared)) []
+    (row_of groups.all)
 
-abbrev pub steps_made : Runner → Place → Scope → List OutputDecl → List (List Call) → Made
-steps_made run place scope declared gs = steps_by place declared (groups_from run place 0 scope gs)
+abbrev pub steps_made : Caller → Place → Scope → List OutputDecl → List (List Call) → Made
+steps_made called place scope declared gs = steps_by place declared (groups_from called place 0 scope gs)

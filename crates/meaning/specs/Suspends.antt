@@ -12,10 +12,9 @@ use Rattle.time_text.specs.declared.duration.DurationRefused.{DurationRefused}
 use Rattle.time_text.specs.Durations.{duration_of}
 use Rattle.scopes.specs.Substitution.{Found, ◌>>=◌, Scope, said}
 use Rattle.meaning.specs.declared.lines.Place.{Place}
-use Rattle.meaning.specs.declared.lines.Made.{Made}
 use Rattle.meaning.specs.Answers.{path, Answers}
-use Rattle.meaning.specs.Lines.{later, no_outputs, node, made, alone}
-use Rattle.meaning.specs.Outputs.{computed, ending}
+use Rattle.meaning.specs.Lines.{later, Made, nothing, no_outputs, node, made, alone}
+use Rattle.meaning.specs.Outputs.{defaulted, ended_node}
 
 abbrev pub seconds_read : Result ℕ DurationRefused → Found (Option ℕ)
 seconds_read (Ok n) = Ok (Some n)
@@ -36,16 +35,16 @@ suspend_wants place seconds None = want.Arming (path place.sels) ∷ []
 suspend_wants place seconds (Some tick) = timer_wants place tick seconds
 
 -- it is Succeeded once it is due or resumed, and runs before
-abbrev pub suspend_by : Answers → Place → Scope → List OutputDecl → Option ℕ → Bool → Made
-suspend_by A place scope declared seconds true =
-    made (ending place kind.Suspend Succeeded note.None no_outputs (computed scope declared)) [] []
-suspend_by A place scope declared seconds false =
-    made (node place kind.Suspend Running note.None no_outputs) (suspend_wants place seconds (A.armed place.sels)) []
+abbrev pub suspend_by : Place → List OutputDecl → Option ℕ → Option ℕ → Bool → Made
+suspend_by place declared seconds armed true =
+    made (ended_node place kind.Suspend Succeeded note.None no_outputs (defaulted declared)) [] nothing
+suspend_by place declared seconds armed false =
+    made (node place kind.Suspend Running note.None no_outputs) (suspend_wants place seconds armed) nothing
 
-abbrev pub suspended : Answers → Place → Scope → List OutputDecl → Found (Option ℕ) → Made
-suspended A place scope declared (Err fault) = alone place kind.Suspend Error fault
-suspended A place scope declared (Ok seconds) =
-    suspend_by A place scope declared seconds (A.due place.sels || A.resumed place.sels)
+abbrev pub suspended : Answers → Place → List OutputDecl → Found (Option ℕ) → Made
+suspended A place declared (Err fault) = alone place kind.Suspend Error fault
+suspended A place declared (Ok seconds) =
+    suspend_by place declared seconds (A.armed place.sels) (A.due place.sels || A.resumed place.sels)
 
 abbrev pub suspend_made : Answers → Place → Scope → List OutputDecl → Option (List Part) → Made
-suspend_made A place scope declared duration = suspended A place scope declared (seconds_of scope duration)
+suspend_made A place scope declared duration = suspended A place declared (seconds_of scope duration)

@@ -1,13 +1,14 @@
 -- The tree of a manifest and recorded facts, what it asks for, and which tasks may begin.
-use Rattle.std.specs.Prelude.{◌≡◌, ℕ, List, [], ◌∷◌, ◌++◌, Bool, true, false, Option, Some, None, Ok, Err, if◌then◌else◌, codes, filter_map}
+use Rattle.std.specs.Prelude.{◌≡◌, ℕ, List, [], ◌∷◌, ◌++◌, ◌-◌, map, Bool, true, false, Option, Some, None, Ok, Err, if◌then◌else◌, codes, filter_map}
 use Rattle.tree_types.specs.declared.path.Sel.TheVariants.{Main, Exit}
 use Rattle.tree_types.specs.declared.path.Path.{Path}
 use Rattle.tree_types.specs.declared.path.LockId.{LockId}
 use Rattle.tree_types.specs.declared.phase.Phase.{Phase}
-use Rattle.tree_types.specs.declared.phase.Phase.TheVariants.{Pending, Running, Succeeded}
+use Rattle.tree_types.specs.declared.phase.Phase.TheVariants.{Pending, Running}
 use Rattle.tree_types.specs.declared.node.Note.{Note}
 use Rattle.tree_types.specs.declared.node.Note.TheVariants as note
 use Rattle.tree_types.specs.declared.node.Node.{Node}
+use Rattle.tree_types.specs.declared.outcome.Param.{Param}
 use Rattle.tree_types.specs.declared.fact.Fact.TheVariants.{Begun}
 use Rattle.tree_types.specs.declared.want.Want.{Want}
 use Rattle.tree_types.specs.declared.want.Want.TheVariants as want
@@ -16,14 +17,13 @@ use Rattle.node_names.specs.declared.seg.Seg.TheVariants as seg
 use Rattle.node_names.specs.Names.{suffix}
 use Rattle.wf_manifest.specs.declared.calls.Argument.{Argument}
 use Rattle.wf_manifest.specs.declared.manifest.Manifest.{Manifest}
-use Rattle.scopes.specs.Substitution.{Found, Scope, said}
+use Rattle.scopes.specs.Substitution.{Found, Scope, said, workflow_tags}
 use Rattle.meaning.specs.declared.lines.Place.{Place}
 use Rattle.meaning.specs.declared.lines.Line.{Line}
 use Rattle.meaning.specs.declared.lines.Line.TheVariants.{Stands, Asks, MayBegin}
-use Rattle.meaning.specs.declared.lines.Made.{Made}
-use Rattle.meaning.specs.Answers.{path, Sels, Facts, Answers, answers}
-use Rattle.meaning.specs.Lines.{no_outputs, node, status_tag}
-use Rattle.meaning.specs.Calls.{kind_named, plain_call, calls}
+use Rattle.meaning.specs.Answers.{path, Facts, Answers, answers}
+use Rattle.meaning.specs.Lines.{Made, lines_in, no_outputs, node, status_tag}
+use Rattle.meaning.specs.Calls.{kind_named, call_of_template, calls}
 
 -- the most nodes of a stored tree
 abbrev pub most_nodes : ℕ
@@ -36,18 +36,11 @@ abbrev pub found_or_empty : Found (List ℕ) → List ℕ
 found_or_empty (Ok v) = v
 found_or_empty (Err fault) = []
 
-abbrev pub argument_tag : Scope → Argument → List ℕ × List ℕ
-argument_tag scope a = (codes "workflow.parameters." ++ a.name, found_or_empty (said scope a.value))
+abbrev pub workflow_param : Manifest → Argument → Param
+workflow_param m a = record { name = a.name; value = found_or_empty (said (workflow_tags m.name []) a.value) }
 
-abbrev pub name_tags : Manifest → Scope
-name_tags m = (codes "workflow.name", m.name) ∷ []
-
-abbrev pub argument_tags : Scope → List Argument → Scope
-argument_tags scope [] = scope
-argument_tags scope (a ∷ rest) = argument_tag scope a ∷ argument_tags scope rest
-
-abbrev pub workflow_tags : Manifest → Scope
-workflow_tags m = argument_tags (name_tags m) m.arguments
+abbrev pub globals_of : Manifest → Scope
+globals_of m = workflow_tags m.name (map (workflow_param m) m.arguments)
 
 -- ---- the entrypoint and the exit handler (Argo, "Exit handlers")
 
@@ -57,16 +50,22 @@ root m = record { sels = Main ∷ []; name = m.name; depth = 1 }
 abbrev pub exit_root : Manifest → Place
 exit_root m = record { sels = Exit ∷ []; name = m.name ++ suffix seg.Exit; depth = 1 }
 
--- both are called with the workflow's arguments at depth 1; a call of depth 33 is too deep (the limit is own)
+-- the greatest depth of a call (own)
+abbrev pub most_depth : ℕ
+most_depth = 32
+
+-- both are called with the workflow's arguments at depth 1
 abbrev pub top_call : Manifest → Answers → Scope → Place → List ℕ → Made
-top_call m A flow place template = plain_call m A flow (calls m A flow 31) place flow template m.arguments (λ b. b)
+top_call m A globals place template =
+    let called = calls m A globals (most_depth - 1) in
+    call_of_template m A globals called place globals template m.arguments (λ b. b)
 
 abbrev pub main_made : Manifest → Answers → Made
-main_made m A = top_call m A (workflow_tags m) (root m) m.entrypoint
+main_made m A = top_call m A (globals_of m) (root m) m.entrypoint
 
 -- below the exit handler `workflow.status` says the entrypoint's phase
 abbrev pub status_tags : Manifest → Made → Scope
-status_tags m b = status_tag (codes "workflow") b.phase ++ workflow_tags m
+status_tags m b = status_tag (codes "workflow") b.own.node.phase ++ globals_of m
 
 abbrev pub exit_made : Manifest → Answers → Made → List ℕ → Made
 exit_made m A b template = top_call m A (status_tags m b) (exit_root m) template
@@ -77,16 +76,16 @@ exit_if over m A b _ = None
 
 -- the exit handler runs once the entrypoint's node is finished, whatever its phase
 abbrev pub exit_of : Manifest → Answers → Made → Option Made
-exit_of m A b = exit_if b.finished m A b m.on_exit
+exit_of m A b = exit_if b.own.finished m A b m.on_exit
 
 -- ---- the lines of a workflow
 
 abbrev pub exit_lines : Option Made → List Line
 exit_lines None = []
-exit_lines (Some h) = h.lines
+exit_lines (Some h) = lines_in h
 
 abbrev pub running_lines : Manifest → Answers → Made → List Line
-running_lines m A b = b.lines ++ exit_lines (exit_of m A b)
+running_lines m A b = lines_in b ++ exit_lines (exit_of m A b)
 
 -- the root alone: before it is started, and before the workflow's own lock is granted
 abbrev pub pending_root : Manifest → Note → Node
@@ -162,12 +161,13 @@ workflow_phase main None = main
 workflow_phase main (Some exit) = if is_succeeded main then exit else main
 
 abbrev pub ended_phase : Made → Option Made → Phase
-ended_phase b None = workflow_phase b.phase None
-ended_phase b (Some h) = if h.finished then workflow_phase b.phase (Some h.phase) else Running
+ended_phase b None = workflow_phase b.own.node.phase None
+ended_phase b (Some h) =
+    if h.own.finished then workflow_phase b.own.node.phase (Some h.own.node.phase) else Running
 
 -- Running until all is finished
 abbrev pub running_phase : Manifest → Answers → Made → Phase
-running_phase m A b = if b.finished then ended_phase b (exit_of m A b) else Running
+running_phase m A b = if b.own.finished then ended_phase b (exit_of m A b) else Running
 
 abbrev pub granted_phase : Manifest → Answers → Bool → Phase
 granted_phase m A false = Pending

@@ -1,7 +1,7 @@
-//! What a call makes, in tree order.
+//! The lines of a tree.
 
-use base_types::{List, Text};
-use tree_types::{Node, Outputs, Path, Phase, Sels, Want};
+use base_types::Text;
+use tree_types::{Node, Path, Sels, Want};
 
 /// Where a node stands: its path, its name, and how many nodes stand from the root down to it.
 #[derive(Drop)]
@@ -11,7 +11,7 @@ pub struct Place {
     pub depth: u32,
 }
 
-/// A line of what a call makes.
+/// A line of a tree.
 #[derive(Drop)]
 pub enum Line {
     /// A node stands here.
@@ -20,22 +20,4 @@ pub enum Line {
     Asks(Want),
     /// A task that is ready, and whose beginning may be recorded.
     MayBegin(Path),
-}
-
-/// Lines in tree order.
-pub type Lines = List<Line>;
-
-/// What a call makes, and what others see of it.
-#[derive(Drop)]
-pub struct Made {
-    pub lines: Lines,
-    /// The phase of its own node.
-    pub phase: Phase,
-    /// Its node is fulfilled, and its exit hook, where it runs, is finished.
-    pub finished: bool,
-    pub outputs: Outputs,
-    /// Some item of a looped call is Succeeded.
-    pub any_succeeded: bool,
-    /// Each item of a looped call is Failed.
-    pub all_failed: bool,
 }
