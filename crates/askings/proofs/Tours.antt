@@ -1,0 +1,114 @@
+-- A tour of a tree: what holds of the lines of a whole tree, if it holds of what a node asks for, of lines side by side,
+-- and of the lines of a node and below it.
+use Rattle.std.proofs.Common.{◌≡◌, refl, ap}
+use Rattle.std.specs.Prelude.{ℕ, List, [], ◌∷◌, ◌++◌, true, false, Some, None}
+use Rattle.tree_types.specs.declared.path.Path.{Path}
+use Rattle.tree_types.specs.declared.path.Sel.TheVariants.{Attempt}
+use Rattle.tree_types.specs.declared.path.LockId.{LockId}
+use Rattle.tree_types.specs.declared.phase.Phase.TheVariants.{Pending, Running, Succeeded}
+use Rattle.tree_types.specs.declared.node.Kind.{Kind}
+use Rattle.tree_types.specs.declared.node.Kind.TheVariants as kind
+use Rattle.tree_types.specs.declared.node.Note.TheVariants as note
+use Rattle.tree_types.specs.declared.node.Node.{Node}
+use Rattle.tree_types.specs.declared.outcome.Outputs.{Outputs}
+use Rattle.tree_types.specs.declared.want.Want.{Want}
+use Rattle.tree_types.specs.Phases.{fulfilled}
+use Rattle.tree_types.specs.declared.want.Want.TheVariants as want
+use Rattle.wf_manifest.specs.declared.templates.Memoize.{Memoize}
+use Rattle.wf_manifest.specs.declared.manifest.Manifest.{Manifest}
+use Rattle.meaning.specs.declared.lines.Place.{Place}
+use Rattle.meaning.specs.declared.lines.Line.{Line}
+use Rattle.meaning.specs.declared.lines.Line.TheVariants.{Stands, Asks, MayBegin}
+use Rattle.meaning.specs.Answers.{path, Sels, Answers}
+use Rattle.meaning.specs.Lines.{Made, lines_in, no_outputs, node, made, Parts}
+use Rattle.meaning.specs.Pods.{running_pod}
+use Rattle.meaning.specs.Guards.{lock_at}
+use Rattle.meaning.specs.Trees.{pending_root}
+use Rattle.growth.specs.Growth.{IsSave}
+use Rattle.growth.proofs.Keeping.{not_both, At}
+use Rattle.growth.proofs.Lines.{Every, Any, any_left, any_right, IsNode}
+use Rattle.growth.proofs.Paths.{paths}
+use Rattle.growth.proofs.SoundBodies.{Topped}
+use Rattle.askings.specs.Owners.{is_attempt, memo_at}
+use Rattle.askings.proofs.Walks.{Guarded}
+
+-- the nodes of these lines stand in those
+abbrev pub Part : List Line → List Line → Type 0
+Part whole ls = (n : Node) → Any (IsNode n) ls → Any (IsNode n) whole
+
+pub part_left : (whole ls ks : List Line) → Part whole (ls ++ ks) → Part whole ls
+part_left whole ls ks f n h = f n (any_left (IsNode n) ls ks h)
+
+pub part_right : (whole ls ks : List Line) → Part whole (ls ++ ks) → Part whole ks
+part_right whole ls ks f n h = f n (any_right (IsNode n) ls ks h)
+
+-- nothing but saves is asked for here
+abbrev pub Quiet : Line → Type 0
+Quiet (Asks w) = IsSave w
+Quiet _ = Unit {0}
+
+-- a node that waits for nothing itself
+pub record Idle (n : Node) : Type 0 where
+  pub suspended : n.kind ≡ kind.Suspend → n.phase ≡ Running → ⊥
+  pub pod : n.kind ≡ kind.Pod → n.phase ≡ Running → ⊥
+  pub pending : n.phase ≡ Pending → n.note ≡ note.None
+
+-- so is one that is fulfilled
+pub over_idle : (n : Node) → fulfilled n.phase ≡ true → Idle n
+over_idle n e = record {
+  suspended = λ k r. not_both (fulfilled n.phase) e (ap fulfilled r);
+  pod = λ k r. not_both (fulfilled n.phase) e (ap fulfilled r);
+  pending = λ r. not_both (fulfilled n.phase) e (ap fulfilled r);
+}
+
+-- lines of attempts
+abbrev pub IsPod : Want → Type 0
+IsPod (want.Pod p) = Unit {0}
+IsPod _ = ⊥
+
+abbrev pub Trial : Line → Type 0
+Trial (Asks w) = IsPod w
+Trial _ = Unit {0}
+
+-- the lines of a node that asks for one thing
+abbrev pub asking : Node → Want → List Line
+asking n w = Stands n ∷ Asks w ∷ []
+
+-- the lock that a path carries, if any, is granted
+abbrev pub LockGranted : Manifest → Answers → Sels → Type 0
+LockGranted m A p = (l : LockId) → lock_at m p ≡ Some l → A.granted p ≡ true
+
+-- its node stands at this place, and it is finished when that node is fulfilled
+pub record Headed (p : Place) (b : Made) : Type 0 where
+  pub at : At p b.own.node
+  pub over : b.own.finished ≡ fulfilled b.own.node.phase
+
+pub made_headed : (p : Place) (n : Node) (ws : List Want) (parts : Parts) → At p n → Headed p (made n ws parts)
+made_headed p n ws parts at = record { at = at; over = refl }
+
+pub topped_headed : (A : Answers) (p : Place) (b : Made) → Topped paths A p b → Headed p b
+topped_headed A p b t = record { at = t.at; over = t.over }
+
+pub record Tour (m : Manifest) (A : Answers) (whole : List Line) : Type 1 where
+  -- what is known below a node of its path
+  pub Known : Sels → Type 0
+  -- what holds of lines
+  pub Good : List Line → Type 0
+  pub none : Good []
+  pub both : (ls ks : List Line) → Good ls → Good ks → Good (ls ++ ks)
+  pub begins : (p : Path) → Good (MayBegin p ∷ [])
+  pub stands : (n : Node) (ls : List Line) → Idle n → Good ls → Good (Stands n ∷ ls)
+  -- what a node asks for
+  pub pod : (p : Place) → A.outcome p ≡ None → Guarded Known p.sels → Part whole (lines_in (running_pod p)) → Good (lines_in (running_pod p))
+  pub lock : (p : Place) (k : Kind) (l : LockId) → (p.sels ≡ [] → ⊥) → lock_at m p.sels ≡ Some l → let n : Node = node p k Pending (note.Waiting l) no_outputs in let w : Want = want.Lock (path p.sels) l in Part whole (asking n w) → Good (asking n w)
+  pub look : (p : Place) (k : Kind) (c : Memoize) (key : List ℕ) → memo_at m p.sels ≡ Some c → let n : Node = node p k Pending (note.Looking c.cache) no_outputs in let w : Want = want.LookUp (path p.sels) c.cache key c.max_age in Part whole (asking n w) → Good (asking n w)
+  pub arming : (p : Place) → is_attempt p.sels ≡ false → let n : Node = node p kind.Suspend Running note.None no_outputs in let w : Want = want.Arming (path p.sels) in Part whole (asking n w) → Good (asking n w)
+  pub timer : (p : Place) (armed tick : ℕ) → is_attempt p.sels ≡ false → A.armed p.sels ≡ Some armed → let n : Node = node p kind.Suspend Running note.None no_outputs in let w : Want = want.Timer (path p.sels) tick in Part whole (asking n w) → Good (asking n w)
+  pub resting : (p : Place) (armed : ℕ) → is_attempt p.sels ≡ false → A.armed p.sels ≡ Some armed → Good (Stands (node p kind.Suspend Running note.None no_outputs) ∷ [])
+  pub retry : (p : Place) (k tick : ℕ) (ls : List Line) → let n : Node = node p kind.Retry Running note.None no_outputs in let w : Want = want.Timer (path (p.sels ++ Attempt k ∷ [])) tick in Every Trial ls → Good ls → Part whole (Stands n ∷ (ls ++ Asks w ∷ [])) → Good (Stands n ∷ (ls ++ Asks w ∷ []))
+  pub save : (n : Node) (p : Sels) (o : Outputs) (c : Memoize) (key : List ℕ) (ls : List Line) → n.path ≡ path p → n.outputs ≡ o → n.phase ≡ Succeeded → memo_at m p ≡ Some c → Good ls → Part whole (Stands n ∷ ls) → Good (Stands n ∷ Asks (want.Save (path p) c.cache key o) ∷ ls)
+  -- the workflow's own lock
+  pub root : (l : LockId) → m.lock ≡ Some l → let n : Node = pending_root m (note.Waiting l) in let w : Want = want.Lock (path []) l in Part whole (asking n w) → Good (asking n w)
+  pub own : LockGranted m A [] → Known []
+  -- a node whose lock, if it has one, is granted, and what stands below it
+  pub guarded : (p : Place) (b : Made) → LockGranted m A p.sels → Headed p b → (b.own.finished ≡ true → Every Quiet (lines_in b)) → Part whole (lines_in b) → (Known p.sels → Good (lines_in b)) → Good (lines_in b)
