@@ -2,8 +2,10 @@
 #![tactic(auto)]
 
 mod copying;
+pub mod limits;
 mod list;
 mod memory;
+mod names;
 #[cfg(test)]
 mod tests;
 mod text;
@@ -11,4 +13,5 @@ mod text;
 pub use copying::TryCopy;
 pub use list::{Bytes, List};
 pub use memory::Memory;
+pub use names::{is_name, is_name_byte};
 pub use text::{Names, Text};

@@ -13,7 +13,7 @@ use std::marker::Model;
 use std::slice;
 
 /// A list that contracts see as its items, whatever room it has.
-#[derive(Drop)]
+#[derive(Debug, Drop)]
 pub struct List<T> {
     items: Vec<T>,
 }

@@ -31,6 +31,7 @@ use Rattle.wf_manifest.specs.declared.templates.Body.{Body}
 use Rattle.wf_manifest.specs.declared.templates.Body.TheVariants as body
 use Rattle.wf_manifest.specs.declared.templates.Template.{Template}
 use Rattle.wf_manifest.specs.declared.manifest.Manifest.{Manifest}
+pub use Rattle.wf_manifest.specs.Valid.{template_named}
 use Rattle.scopes.specs.Substitution.{Found, ◌>>=◌, Scope, value_in, said, said_option, has_item_tag}
 use Rattle.fanout.specs.Items.{items}
 use Rattle.fanout.specs.ItemTexts.{item_tags, name_text}
@@ -44,9 +45,6 @@ use Rattle.meaning.specs.Steps.{Caller, steps_made}
 use Rattle.meaning.specs.Dags.{dag_made}
 
 -- ---- templates (field reference, `Template`)
-
-abbrev pub template_named : Manifest → List ℕ → Option Template
-template_named m n = find (λ t. bytes_eq t.name n) m.templates
 
 abbrev pub kind_of_pod : Option Retry → Kind
 kind_of_pod None = kind.Pod

@@ -6,7 +6,7 @@ use Rattle.std.proofs.lemmas.Bool.{cases_Bool, and_from}
 use Rattle.std.proofs.lemmas.Bool.Decides.{nat_tests}
 use Rattle.std.proofs.lemmas.List.Sums.{prefix_len-le-length, prefix_len_passes}
 use Rattle.std.proofs.lemmas.Str.{IsCharBoundary-start, IsCharBoundary-after_ascii}
-use Rattle.node_names.specs.Names.{is_name_byte}
+use Rattle.base_types.specs.Bytes.{is_name_byte}
 use Rattle.node_names.specs.Reading.{Stops}
 
 module _ (p : ℕ → Bool) where

@@ -6,7 +6,9 @@ use Rattle.std.proofs.lemmas.Bool.Decides.{nat_tests}
 use Rattle.std.proofs.lemmas.List.{get_or_at, append-nil}
 use Rattle.node_names.specs.declared.seg.Seg.{Seg}
 use Rattle.node_names.specs.declared.seg.Seg.TheVariants.{Exit, Group, Call, Item, Attempt}
-use Rattle.node_names.specs.Names.{is_name_byte, is_no_parenthesis, IsSound}
+use Rattle.base_types.specs.Bytes.{is_name_byte, is_name}
+use Rattle.base_types.proofs.Bytes.{name_parts}
+use Rattle.node_names.specs.Names.{is_no_parenthesis, IsSound}
 use Rattle.node_names.specs.Reading.{Stops, BeginsWith, BeginsWithNone}
 use Rattle.node_names.proofs.Bytes.{runs_agree, is_not, is_not_other, all_first, all_rest, all_more}
 use Rattle.node_names.proofs.Names.{closed, number_lacks, item_lacks, first_byte}
@@ -36,15 +38,15 @@ no_mark text dot bracket parenthesis (Item i inside) rest sound ends e = parenth
 no_mark text dot bracket parenthesis (Attempt k) rest sound ends e = parenthesis ((decimal k ++ codes ")") ++ rest) e
 
 -- a dot behind which no name of a step stands
-pub no_name : (after name rest : List ℕ) → after ≡ name ++ rest → list_all is_name_byte name ≡ true → Stops is_name_byte rest → name ≢ codes "onExit" → ((0 < length name) → 128 < length name) → BeginsWithNone (46 ∷ after)
+pub no_name : (after name rest : List ℕ) → after ≡ name ++ rest → list_all is_name_byte name ≡ true → Stops is_name_byte rest → name ≢ codes "onExit" → is_name name ≡ false → BeginsWithNone (46 ∷ after)
 no_name after name rest is all stops differs unfit Exit left sound ends e =
     let tails : name ++ rest ≡ codes "onExit" ++ left = sym is ∙ (cc) in
     differs (runs_agree is_name_byte name (codes "onExit") rest left all refl stops ends tails).0
 no_name after name rest is all stops differs unfit (Call other) left sound ends e =
     let tails : name ++ rest ≡ other ++ left = sym is ∙ (cc) in
-    let same : name ≡ other = (runs_agree is_name_byte name other rest left all sound.0.bytes stops ends tails).0 in
-    let long : 128 < length name = unfit (omega (arith, ap length same, sound.0.some)) in
-    omega (arith, ap length same, sound.0.short)
+    let same : name ≡ other = (runs_agree is_name_byte name other rest left all (name_parts other sound.0).bytes stops ends tails).0 in
+    let no : false ≡ true = sym unfit ∙ ap is_name same ∙ sound.0 in
+    absurd cc
 no_name after name rest is all stops differs unfit seg left sound ends e = absurd (let first = ap first_byte e in omega arith)
 
 only_group : (after : List ℕ) → ((i : ℕ) (rest : List ℕ) → i < 2 ^ 32 → after ≢ (decimal i ++ 93 ∷ []) ++ rest) → BeginsWithNone (91 ∷ after)

@@ -7,7 +7,9 @@ use Rattle.std.proofs.lemmas.List.{append-nil, append_cancel_left}
 use Rattle.std.proofs.lemmas.Fmt.{decimal_injective}
 use Rattle.node_names.specs.declared.seg.Seg.{Seg}
 use Rattle.node_names.specs.declared.seg.Seg.TheVariants.{Exit, Group, Call, Item, Attempt}
-use Rattle.node_names.specs.Names.{suffix, name_below, is_name_byte, is_no_parenthesis, IsSound, AreSound}
+use Rattle.base_types.specs.Bytes.{is_name_byte}
+use Rattle.base_types.proofs.Bytes.{name_parts}
+use Rattle.node_names.specs.Names.{suffix, name_below, is_no_parenthesis, IsSound, AreSound}
 use Rattle.node_names.specs.Reading.{Stops, EndsBefore}
 use Rattle.node_names.proofs.Bytes.{runs_agree, decimal_passes, is_not, is_not_same, is_not_other, all_more, all_first, all_rest}
 
@@ -56,13 +58,13 @@ first_byte (b ∷ bs) = b
 pub unsplit : (seg other : Seg) (rest left : List ℕ) → IsSound seg → IsSound other → EndsBefore seg rest → EndsBefore other left → suffix seg ++ rest ≡ suffix other ++ left → (seg ≡ other) × (rest ≡ left)
 unsplit Exit Exit rest left sound sound' stops stops' e = (refl, append_cancel_left (codes ".onExit") rest left e)
 unsplit Exit (Call name) rest left sound sound' stops stops' e =
-    let h = runs_agree is_name_byte (codes "onExit") name rest left refl sound'.0.bytes stops stops' (cc) in
+    let h = runs_agree is_name_byte (codes "onExit") name rest left refl (name_parts name sound'.0).bytes stops stops' (cc) in
     absurd (sound'.1 (sym h.0))
 unsplit (Call name) Exit rest left sound sound' stops stops' e =
-    let h = runs_agree is_name_byte name (codes "onExit") rest left sound.0.bytes refl stops stops' (cc) in
+    let h = runs_agree is_name_byte name (codes "onExit") rest left (name_parts name sound.0).bytes refl stops stops' (cc) in
     absurd (sound.1 h.0)
 unsplit (Call name) (Call other) rest left sound sound' stops stops' e =
-    let h = runs_agree is_name_byte name other rest left sound.0.bytes sound'.0.bytes stops stops' (cc) in
+    let h = runs_agree is_name_byte name other rest left (name_parts name sound.0).bytes (name_parts other sound'.0).bytes stops stops' (cc) in
     (ap (λ (t : List ℕ). Call t) h.0, h.1)
 unsplit (Group i) (Group j) rest left sound sound' stops stops' e =
     let h = closed 93 (decimal i) (decimal j) rest left (number_lacks 93 i (inr (omega arith)) sound) (number_lacks 93 j (inr (omega arith)) sound') (cc) in

@@ -3,9 +3,9 @@
 -- Argo shows a node's name in a workflow's status (field reference, NodeStatus), and forms it from the name of the node
 -- above it as below. That a step is not called `onExit`, and that parentheses are dropped from an item's text, is this
 -- project's own rule: it keeps the names of different nodes apart.
-use Rattle.std.specs.Prelude.{◌≡◌, ◌≢◌, ℕ, ◌^◌, ◌<◌, ◌≤◌, Bool, true, ◌||◌, not, List, [], ◌∷◌, ◌++◌, length, Option, Some, None, codes, decimal, ◌==◌}
-use Rattle.std.specs.Char.{is_ascii_alphanumeric}
+use Rattle.std.specs.Prelude.{◌≡◌, ◌≢◌, ℕ, ◌^◌, ◌<◌, Bool, true, ◌||◌, ◌&&◌, not, List, [], ◌∷◌, ◌++◌, Option, Some, None, codes, decimal, ◌==◌, bytes_eq, IsTrue}
 use Rattle.std.specs.List.{list_all, AllByRecursion}
+use Rattle.base_types.specs.Bytes.{is_name}
 use Rattle.node_names.specs.declared.seg.Seg.{Seg}
 use Rattle.node_names.specs.declared.seg.Seg.TheVariants.{Exit, Group, Call, Item, Attempt}
 
@@ -22,24 +22,20 @@ abbrev pub name_below : List ℕ → List Seg → List ℕ
 name_below root [] = root
 name_below root (seg ∷ way) = name_below (root ++ suffix seg) way
 
--- a letter, a digit, `-` or `_`
-abbrev pub is_name_byte : ℕ → Bool
-is_name_byte b = is_ascii_alphanumeric b || (b == 45) || (b == 95)
-
--- the name of a step or task
-pub record IsStepName (name : List ℕ) : Type 0 where
-  pub bytes : list_all is_name_byte name ≡ true
-  pub some : 0 < length name
-  pub short : length name ≤ 128
+-- The name of a step or task, as a valid manifest has it: neither `onExit`, by which hooks are named, nor `hooks`. Its
+-- grammar is this project's own; Argo asks that the names of a template's steps or tasks differ (field reference,
+-- `WorkflowStep` and `DAGTask`).
+abbrev pub is_step_name : List ℕ → Bool
+is_step_name name = is_name name && not (bytes_eq name (codes "onExit")) && not (bytes_eq name (codes "hooks"))
 
 abbrev pub is_no_parenthesis : ℕ → Bool
 is_no_parenthesis b = not ((b == 40) || (b == 41))
 
--- a number of 32 bits, the name of a step that is not `onExit`, and a text without a parenthesis
+-- a number of 32 bits, a name that is not `onExit`, and a text without a parenthesis
 abbrev pub IsSound : Seg → Type 0
 IsSound Exit = Unit {0}
 IsSound (Group i) = i < 2 ^ 32
-IsSound (Call name) = IsStepName name × (name ≢ codes "onExit")
+IsSound (Call name) = IsTrue (is_name name) × (name ≢ codes "onExit")
 IsSound (Item i text) = (i < 2 ^ 32) × (list_all is_no_parenthesis text ≡ true)
 IsSound (Attempt k) = k < 2 ^ 32
 

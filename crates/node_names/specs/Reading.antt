@@ -2,7 +2,8 @@
 use Rattle.std.specs.Prelude.{◌≡◌, ◌≢◌, ℕ, Bool, false, List, [], ◌∷◌, ◌++◌}
 use Rattle.node_names.specs.declared.seg.Seg.{Seg}
 use Rattle.node_names.specs.declared.seg.Seg.TheVariants.{Exit, Group, Call, Item, Attempt}
-use Rattle.node_names.specs.Names.{suffix, is_name_byte, IsSound}
+use Rattle.base_types.specs.Bytes.{is_name_byte}
+use Rattle.node_names.specs.Names.{suffix, IsSound}
 
 -- a run of bytes that pass the test cannot go on in this text
 abbrev pub Stops : (ℕ → Bool) → List ℕ → Type 0

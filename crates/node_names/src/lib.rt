@@ -9,6 +9,6 @@ mod seg;
 mod tests;
 
 pub use law::distinct_names;
-pub use naming::child_name;
+pub use naming::{child_name, is_step_name};
 pub use reading::segs_of;
 pub use seg::{Seg, Segs};

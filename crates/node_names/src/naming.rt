@@ -2,9 +2,10 @@
 
 ghost use Rattle.std.specs.Prelude.{◌≡◌, ◌++◌, IfOk};
 ghost use Rattle.node_names.specs.Names.{suffix, IsSound};
+ghost use Rattle.node_names.specs.Names as names;
 
 use crate::Seg;
-use base_types::{Memory, Text};
+use base_types::{Memory, Text, is_name};
 
 /// The name of the node below this one.
 pub fn child_name(parent: &Text, seg: &Seg) -> Result<Text, Memory>
@@ -20,4 +21,11 @@ pub fn child_name(parent: &Text, seg: &Seg) -> Result<Text, Memory>
         Seg::Attempt(k) => format!(in alloc; "{parent}({k})")?,
     };
     Ok(Text::from_string(name))
+}
+
+/// Whether a text is the name of a step or task, as a valid manifest has it.
+pub fn is_step_name(name: &str) -> bool
+    ensures { result ≡ names.is_step_name name.now }
+{
+    is_name(name) && name != "onExit" && name != "hooks"
 }

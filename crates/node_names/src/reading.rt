@@ -2,27 +2,19 @@
 
 ghost use Rattle.std.specs.Prelude.{◌≡◌, ◌≢◌, ℕ, ◌^◌, ◌<◌, ◌∷◌, ◌++◌, true, MatchOption, IfOk, decimal};
 ghost use Rattle.std.specs.List.{list_all, prefix_len};
-ghost use Rattle.node_names.specs.Names.{is_name_byte, IsWay};
+ghost use Rattle.base_types.specs.Bytes.{is_name_byte};
+ghost use Rattle.node_names.specs.Names.{IsWay};
 ghost use Rattle.node_names.specs.Reading.{Stops, BeginsWith, BeginsWithNone};
 
 use crate::{Seg, Segs};
-use base_types::{Memory, Text};
+use base_types::{Memory, Text, is_name, is_name_byte};
 use std::alloc::Global;
-
-// The longest name of a step or task, but for its length.
-const LONGEST_NAME: usize = 128;
-
-fn is_of_name(byte: u8) -> bool
-    ensures { result ≡ is_name_byte byte }
-{
-    byte.is_ascii_alphanumeric() || byte == b'-' || byte == b'_'
-}
 
 // How many bytes of a step's name a text begins with.
 fn name_len(text: &[u8]) -> usize
     ensures { result ≡ prefix_len is_name_byte text.now }
 {
-    text.iter().take_while(|byte| is_of_name(**byte)).count()
+    text.iter().take_while(|byte| is_name_byte(**byte)).count()
 }
 
 // The bytes of a step's name that a text begins with, and the text behind them.
@@ -64,7 +56,7 @@ fn call_at(alloc: Global, after: &str) -> Result<Option<(Seg, &str)>, Memory>
     if name == "onExit" {
         return Ok(Some((Seg::Exit, rest)));
     }
-    if name.is_empty() || LONGEST_NAME < name.len() {
+    if !is_name(name) {
         return Ok(None);
     }
     Ok(Some((Seg::Call(Text::from_text(alloc, name)?), rest)))

@@ -2,6 +2,7 @@
 -- That a tag without a value makes its node Error, and that there is one pass of substitution, is this project's own.
 use Rattle.std.specs.Prelude.{ℕ, List, [], ◌∷◌, ◌++◌, Bool, false, ◌||◌, Option, Some, None, Result, Ok, Err, if◌then◌else◌, bytes_eq, codes, nat_eq, map}
 use Rattle.std.specs.List.{starts_with, list_any}
+pub use Rattle.base_types.specs.Results.{◌>>=◌}
 use Rattle.tree_types.specs.declared.node.Note.{Note}
 use Rattle.tree_types.specs.declared.node.Note.TheVariants.{Unresolved}
 use Rattle.tree_types.specs.declared.outcome.Param.{Param}
@@ -11,12 +12,6 @@ use Rattle.tag_text.specs.declared.part.Part.TheVariants.{Plain, Tag}
 -- a value, or the note of the fault that stands in its place
 abbrev pub Found : Type 0 → Type 0
 Found A = Result A Note
-
--- go on with the value, if there is one
-infixl 10 ◌>>=◌
-abbrev pub ◌>>=◌ : {A B : Type 0} → Found A → (A → Found B) → Found B
-(Ok x) >>= f = f x
-(Err note) >>= f = Err note
 
 -- tags and their values: of two entries of one tag the first counts
 abbrev pub Scope : Type 0

@@ -3,7 +3,8 @@ use Rattle.std.proofs.Common.{◌≡◌, ◌≢◌, ℕ, true, false, List, [], 
 use Rattle.std.specs.List.{list_all}
 use Rattle.std.proofs.lemmas.List.{reverse-append, reverse-reverse}
 use Rattle.std.proofs.lemmas.Bool.{cases_Bool, and_parts, and_from}
-use Rattle.tag_text.specs.Parts.{is_space, without_leading_spaces, without_trailing_spaces, trimmed, closing}
+use Rattle.base_types.specs.Bytes.{is_space}
+use Rattle.tag_text.specs.Parts.{without_leading_spaces, without_trailing_spaces, trimmed, closing}
 use Rattle.tag_text.specs.Spelling.{HasNoSpaceAtItsEnds, IsTagName, IsInside, LeadsTo}
 
 pub skip_space : (b : ℕ) (bs : List ℕ) → is_space b ≡ true → without_leading_spaces (b ∷ bs) ≡ without_leading_spaces bs

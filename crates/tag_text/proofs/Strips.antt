@@ -4,7 +4,8 @@ use Rattle.std.specs.Str.Pattern.{FindsText, SplitsAroundMatch}
 use Rattle.std.proofs.lemmas.List.{reverse-append, reverse-reverse}
 use Rattle.std.proofs.lemmas.Bool.Decides.{Decides-eqb}
 use Rattle.std.proofs.lemmas.Bool.{cases_Bool}
-use Rattle.tag_text.specs.Parts.{cut, is_space, without_leading_spaces, without_trailing_spaces}
+use Rattle.base_types.specs.Bytes.{is_space}
+use Rattle.tag_text.specs.Parts.{cut, without_leading_spaces, without_trailing_spaces}
 use Rattle.tag_text.proofs.Cuts.{found_none, found_some}
 use Rattle.tag_text.proofs.Spaces.{skip_space, keep_other}
 

@@ -4,6 +4,7 @@
 -- expression tags, `{{=..}}`, are refused. That a tag has to be closed and may not be empty is this project's own rule.
 use Rattle.std.specs.Prelude.{ℕ, zero, suc, List, [], ◌∷◌, ◌++◌, length, drop, reverse, Bool, ◌||◌, Option, Some, None, option_map, Result, Ok, Err, if◌then◌else◌, ◌==◌, nat_eq, codes}
 use Rattle.std.specs.List.{starts_with}
+use Rattle.base_types.specs.Bytes.{is_space}
 use Rattle.tag_text.specs.declared.part.Part.{Part}
 use Rattle.tag_text.specs.declared.part.Part.TheVariants.{Plain, Tag}
 use Rattle.tag_text.specs.declared.refused.TagRefused.{TagRefused}
@@ -20,10 +21,6 @@ opening = codes "{{"
 -- what ends it
 abbrev pub closing : List ℕ
 closing = codes "}}"
-
--- a space or a tab
-abbrev pub is_space : ℕ → Bool
-is_space b = (b == 32) || (b == 9)
 
 abbrev pub without_leading_spaces : List ℕ → List ℕ
 without_leading_spaces [] = []

@@ -3,7 +3,8 @@ use Rattle.std.specs.Prelude.{◌≡◌, ◌≢◌, ℕ, List, [], ◌∷◌, �
 use Rattle.std.specs.List.{list_all}
 use Rattle.tag_text.specs.declared.part.Part.{Part}
 use Rattle.tag_text.specs.declared.part.Part.TheVariants.{Plain, Tag}
-use Rattle.tag_text.specs.Parts.{opening, closing, is_space}
+use Rattle.base_types.specs.Bytes.{is_space}
+use Rattle.tag_text.specs.Parts.{opening, closing}
 
 -- a mark stands nowhere in a text
 abbrev pub Lacks : List ℕ → List ℕ → Type 0

@@ -4,7 +4,7 @@ use crate::{Facts, LockId, Outcome, Outputs, Path};
 use base_types::{List, Text};
 
 /// The key of an object in the store.
-#[derive(PartialEq, Eq, Hash, Drop)]
+#[derive(Debug, PartialEq, Eq, Hash, Drop)]
 pub enum Key {
     Workflow(Text),
     /// The pod of a workflow, by the name of its node.
@@ -14,7 +14,7 @@ pub enum Key {
 }
 
 /// The holder of a lock: a node of a workflow, or with the empty path the workflow itself.
-#[derive(PartialEq, Eq, Hash, Drop)]
+#[derive(Debug, PartialEq, Eq, Hash, Drop)]
 pub struct HolderKey {
     pub workflow: Text,
     pub path: Path,
@@ -22,7 +22,7 @@ pub struct HolderKey {
 
 /// By what waiters of a lock are ranked: the workflow's priority, its creation in Unix seconds, its name, whether the
 /// workflow itself asks, and the node's name.
-#[derive(Drop)]
+#[derive(Debug, Drop)]
 pub struct Rank {
     pub priority: i32,
     pub created: i64,
@@ -32,7 +32,7 @@ pub struct Rank {
 }
 
 /// How many may hold a lock.
-#[derive(Drop)]
+#[derive(Debug, Drop)]
 pub struct Limit {
     pub lock: LockId,
     pub limit: u64,
@@ -42,7 +42,7 @@ pub struct Limit {
 pub type Limits = List<Limit>;
 
 /// A change that the store accepted by one call.
-#[derive(Drop)]
+#[derive(Debug, Drop)]
 pub enum Entry {
     /// A workflow was submitted, perhaps from an old one, with these facts carried over.
     Submit {

@@ -4,7 +4,7 @@ use crate::{Outcome, Outputs, Path};
 use base_types::List;
 
 /// A recorded fact. The tree of a workflow follows from its manifest and its facts alone.
-#[derive(Drop)]
+#[derive(Debug, Drop)]
 pub enum Fact {
     /// The workflow was begun.
     Started,

@@ -8,7 +8,7 @@ use std::alloc::Global;
 use std::marker::Model;
 
 /// A list of facts with at most one of a kind per path.
-#[derive(Drop)]
+#[derive(Debug, Drop)]
 pub struct Journal {
     facts: Facts,
 }

@@ -7,7 +7,7 @@ use crate::Phase;
 use base_types::{List, Text};
 
 /// A name and a value.
-#[derive(PartialEq, Eq, Drop)]
+#[derive(Debug, PartialEq, Eq, Drop)]
 pub struct Param {
     pub name: Text,
     pub value: Text,
@@ -17,7 +17,7 @@ pub struct Param {
 pub type Params = List<Param>;
 
 /// How a pod ended: Succeeded, Failed or Error, from the tick `begin` to the tick `finish`.
-#[derive(Drop)]
+#[derive(Debug, Drop)]
 pub struct Outcome {
     pub phase: Phase,
     pub result: Option<Text>,
@@ -30,7 +30,7 @@ pub struct Outcome {
 }
 
 /// What a node hands on: `outputs.result` and `outputs.parameters`.
-#[derive(Drop)]
+#[derive(Debug, Drop)]
 pub struct Outputs {
     pub result: Option<Text>,
     pub params: Params,

@@ -19,13 +19,13 @@ pub type Sels = List<Sel>;
 
 /// A place in a node tree, from the entrypoint (`Main`) or the exit handler (`Exit`) down. The empty path stands for the
 /// workflow itself, as the holder of its own lock.
-#[derive(PartialEq, Eq, Hash, Drop)]
+#[derive(Debug, PartialEq, Eq, Hash, Drop)]
 pub struct Path {
     pub sels: Sels,
 }
 
 /// The name of a lock: `mutex/NAME` or `semaphore/MAP/KEY`.
-#[derive(PartialEq, Eq, Hash, Drop)]
+#[derive(Debug, PartialEq, Eq, Hash, Drop)]
 pub struct LockId {
     pub text: Text,
 }

@@ -4,7 +4,7 @@ use crate::{LockId, Outputs, Path};
 use base_types::{List, Text};
 
 /// What a path asks for.
-#[derive(Drop)]
+#[derive(Debug, Drop)]
 pub enum Want {
     Pod(Path),
     Lock(Path, LockId),

@@ -1,1 +1,2 @@
 pub mod JsonCode
+pub mod Valid

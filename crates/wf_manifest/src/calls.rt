@@ -32,7 +32,7 @@ pub enum Loop {
 }
 
 /// The failures that do not count against what stands above (field reference, `ContinueOn`).
-#[derive(Clone, Copy)]
+#[derive(Clone, Copy, Debug)]
 pub struct ContinueOn {
     pub failed: bool,
     pub error: bool,

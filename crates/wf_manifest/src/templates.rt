@@ -47,7 +47,7 @@ pub enum Policy {
 }
 
 /// The wait between attempts (field reference, `Backoff`); durations are in seconds.
-#[derive(Clone, Copy)]
+#[derive(Clone, Copy, Debug)]
 pub struct Backoff {
     pub duration: u64,
     pub factor: u64,
@@ -55,7 +55,7 @@ pub struct Backoff {
 }
 
 /// How often a pod is tried (field reference, `RetryStrategy`).
-#[derive(Clone, Copy)]
+#[derive(Clone, Copy, Debug)]
 pub struct Retry {
     pub limit: Option<u64>,
     pub policy: Policy,

@@ -1,7 +1,7 @@
 use Rattle.std.proofs.Common.{subst, sym, ◌∙◌, ap, take, drop}
 use Rattle.std.specs.List.{list_all, prefix_len}
 use Rattle.std.specs.Str.{IsCharBoundary}
-use Rattle.node_names.specs.Names.{is_name_byte}
+use Rattle.base_types.specs.Bytes.{is_name_byte}
 use Rattle.node_names.specs.Reading.{Stops}
 use Rattle.node_names.proofs.Fronts.{run_passes, run_stops, run_ends}
 use Rattle.node_names.proofs.reading.split_name.Goals as goal
