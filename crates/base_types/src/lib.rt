@@ -6,8 +6,6 @@ pub mod limits;
 mod list;
 mod memory;
 mod names;
-#[cfg(test)]
-mod tests;
 mod text;
 
 pub use copying::TryCopy;

@@ -9,8 +9,6 @@ mod node;
 mod outcome;
 mod path;
 mod phase;
-#[cfg(test)]
-mod tests;
 mod want;
 
 pub use entry::{Entries, Entry, HolderKey, Key, Limit, Limits, Rank};
