@@ -1,7 +1,7 @@
 -- Where a text is cut at a mark.
-use Rattle.std.proofs.Common.{◌≡◌, ◌≢◌, ◌⊎◌, ℕ, zero, suc, ◌+◌, ◌≤◌, ◌<◌, true, false, List, [], ◌∷◌, ◌++◌, length, take, drop, Some, None, option_map, refl, ap, ◌∙◌, inl, inr, append_assoc, length-append, arith, nat_eq}
+use Rattle.std.proofs.Common.{◌≡◌, ◌≢◌, ◌⊎◌, ℕ, zero, suc, ◌+◌, ◌≤◌, ◌<◌, true, false, List, [], ◌∷◌, ◌++◌, length, take, drop, Some, None, option_map, Option, MatchOption, Bor, refl, ap, ◌∙◌, inl, inr, append_assoc, length-append, arith, nat_eq}
 use Rattle.std.specs.List.{starts_with}
-use Rattle.std.specs.Str.Pattern.{LacksTextAt}
+use Rattle.std.specs.Str.Pattern.{LacksTextAt, FindsText, SplitsAroundMatch}
 use Rattle.std.proofs.lemmas.List.{take-append-le}
 use Rattle.std.proofs.lemmas.List.Prefix.{front_rest}
 use Rattle.std.proofs.lemmas.Slice.Eq.{starts_is}
@@ -143,3 +143,10 @@ found_some m ms (b ∷ bs) rest (suc i) lacks has =
           cut_later (m ∷ ms) bs b differs
           ∙ ap (option_map (behind b)) (found_some m ms bs rest i (λ k below r. lacks (suc k) (omega arith) r) has)
     ]
+
+-- where a text is split at a mark
+pub split_is_cut : (mark bs : List ℕ) (r : Option (Bor (List ℕ) × Bor (List ℕ))) → mark ≢ [] → MatchOption r (FindsText mark bs None) (λ x. SplitsAroundMatch (FindsText mark) bs x.0.now x.1.now) → MatchOption r (cut mark bs ≡ None) (λ x. cut mark bs ≡ Some (x.0.now, x.1.now))
+split_is_cut [] bs r some found = absurd (some refl)
+split_is_cut (m ∷ ms) bs None some found = found_none m ms bs found
+split_is_cut (m ∷ ms) bs (Some x) some (i, j, (before, has), front_is, back_is, order, front_len, back_len) =
+    found_some m ms bs (drop j bs) i before has.split ∙ ap (λ (p : List ℕ × List ℕ). Some p) (cc)

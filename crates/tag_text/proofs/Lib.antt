@@ -1,5 +1,5 @@
-pub mod Cuts
-pub mod Parsing
-pub mod Spaces
-pub mod SpellingLemmas
-pub mod Strips
+pub mod Cut
+pub mod Parsed
+pub mod Spells
+pub mod Trimmed
+pub mod WithoutSpaces

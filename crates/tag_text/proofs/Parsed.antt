@@ -3,7 +3,7 @@ use Rattle.std.proofs.Common.{◌≡◌, ℕ, zero, suc, ◌≤◌, ◌<◌, Lis
 use Rattle.tag_text.specs.declared.part.Part.{Part}
 use Rattle.tag_text.specs.declared.refused.TagRefused.TheVariants.{Unclosed}
 use Rattle.tag_text.specs.Parts.{Parsed, opening, closing, cut, trimmed, as_it_stands, tag_named, followed, tag_then, closed, opened, parsed_within, parsed}
-use Rattle.tag_text.proofs.Cuts.{cuts}
+use Rattle.tag_text.proofs.Cut.{cuts}
 
 -- what stands behind a mark is shorter
 pub cut_shorter : (m : ℕ) (ms text : List ℕ) (p : List ℕ × List ℕ) → cut (m ∷ ms) text ≡ Some p → length p.1 < length text

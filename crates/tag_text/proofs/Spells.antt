@@ -9,9 +9,9 @@ use Rattle.tag_text.specs.declared.refused.TagRefused.{TagRefused}
 use Rattle.tag_text.specs.declared.refused.TagRefused.TheVariants.{Expression}
 use Rattle.tag_text.specs.Parts.{Parsed, opening, closing, trimmed, as_it_stands, tag_named, followed, tag_then, parsed}
 use Rattle.tag_text.specs.Spelling.{Lacks, LeadsTo, IsTagName, AreParts, IsInside, IsWritten, Spells}
-use Rattle.tag_text.proofs.Cuts.{cuts, cut_none, cut_some, nothing_leads}
-use Rattle.tag_text.proofs.Parsing.{cut_shorter, parsed_plain, parsed_unclosed, parsed_tag}
-use Rattle.tag_text.proofs.Spaces.{trimmed_ends, trimmed_inside, trimmed_name}
+use Rattle.tag_text.proofs.Cut.{cuts, cut_none, cut_some, nothing_leads}
+use Rattle.tag_text.proofs.Parsed.{cut_shorter, parsed_plain, parsed_unclosed, parsed_tag}
+use Rattle.tag_text.proofs.Trimmed.{trimmed_ends, trimmed_inside, trimmed_name}
 
 -- a tag that was made of a name
 pub record IsMade (name : List ℕ) (tag : Part) : Type 0 where

@@ -1,13 +1,11 @@
--- What taking a space off a text leaves, and what a search for a mark found.
-use Rattle.std.proofs.Common.{◌≡◌, ◌≢◌, ◌||◌, nat_eq, ℕ, true, List, [], ◌∷◌, ◌++◌, reverse, drop, Option, Some, None, MatchOption, IfNone, refl, sym, ap, ◌∙◌, inl, inr, Bor}
-use Rattle.std.specs.Str.Pattern.{FindsText, SplitsAroundMatch}
+-- What taking a space off a text leaves.
+use Rattle.std.proofs.Common.{◌≡◌, ◌≢◌, ◌||◌, nat_eq, ℕ, true, List, [], ◌∷◌, ◌++◌, reverse, Option, Some, None, MatchOption, IfNone, refl, sym, ap, ◌∙◌, inl, inr, Bor}
 use Rattle.std.proofs.lemmas.List.{reverse-append, reverse-reverse}
 use Rattle.std.proofs.lemmas.Bool.Decides.{Decides-eqb}
 use Rattle.std.proofs.lemmas.Bool.{cases_Bool}
 use Rattle.base_types.specs.Bytes.{is_space}
-use Rattle.tag_text.specs.Parts.{cut, without_leading_spaces, without_trailing_spaces}
-use Rattle.tag_text.proofs.Cuts.{found_none, found_some}
-use Rattle.tag_text.proofs.Spaces.{skip_space, keep_other}
+use Rattle.tag_text.specs.Parts.{without_leading_spaces, without_trailing_spaces}
+use Rattle.tag_text.proofs.Trimmed.{skip_space, keep_other}
 
 space_is : (b : ℕ) → is_space b ≡ true → b ≢ 32 → b ≡ 9
 space_is b space differs =
@@ -45,10 +43,3 @@ no_front bs P (Some x) space tab = tt
 pub no_end : (bs : List ℕ) (P : Bor (List ℕ) → Type 0) (r : Option (Bor (List ℕ))) → ((front : List ℕ) → bs ≢ front ++ 32 ∷ []) → MatchOption r ((front : List ℕ) → bs ≢ front ++ 9 ∷ []) P → IfNone r (without_trailing_spaces bs ≡ bs)
 no_end bs P None space tab = end_kept bs space tab
 no_end bs P (Some x) space tab = tt
-
--- where a text is split at a mark
-pub split_is_cut : (mark bs : List ℕ) (r : Option (Bor (List ℕ) × Bor (List ℕ))) → mark ≢ [] → MatchOption r (FindsText mark bs None) (λ x. SplitsAroundMatch (FindsText mark) bs x.0.now x.1.now) → MatchOption r (cut mark bs ≡ None) (λ x. cut mark bs ≡ Some (x.0.now, x.1.now))
-split_is_cut [] bs r some found = absurd (some refl)
-split_is_cut (m ∷ ms) bs None some found = found_none m ms bs found
-split_is_cut (m ∷ ms) bs (Some x) some (i, j, (before, has), front_is, back_is, order, front_len, back_len) =
-    found_some m ms bs (drop j bs) i before has.split ∙ ap (λ (p : List ℕ × List ℕ). Some p) (cc)

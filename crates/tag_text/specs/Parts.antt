@@ -2,7 +2,7 @@
 --
 -- Argo, "Workflow variables": a tag is written `{{name}}`. Of the two forms there, simple tags are read and
 -- expression tags, `{{=..}}`, are refused. That a tag has to be closed and may not be empty is this project's own rule.
-use Rattle.std.specs.Prelude.{ℕ, zero, suc, List, [], ◌∷◌, ◌++◌, length, drop, reverse, Bool, ◌||◌, Option, Some, None, option_map, Result, Ok, Err, if◌then◌else◌, ◌==◌, nat_eq, codes}
+use Rattle.std.specs.Prelude.{ℕ, zero, suc, List, [], ◌∷◌, ◌++◌, length, drop, reverse, Option, Some, None, option_map, Result, Ok, Err, if◌then◌else◌, ◌==◌, nat_eq, codes}
 use Rattle.std.specs.List.{starts_with}
 use Rattle.base_types.specs.Bytes.{is_space}
 use Rattle.tag_text.specs.declared.part.Part.{Part}

@@ -6,8 +6,6 @@ mod part;
 mod reading;
 mod refused;
 mod tag_text;
-#[cfg(test)]
-mod tests;
 
 pub use law::spelling;
 pub use part::{Part, Piece};

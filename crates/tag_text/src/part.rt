@@ -3,7 +3,7 @@
 use base_types::{Memory, Text, TryCopy};
 
 /// A stored part of a text.
-#[derive(Drop)]
+#[derive(Debug, Drop)]
 pub enum Part {
     /// Text as it stands, which is never empty.
     Plain(Text),
@@ -12,7 +12,7 @@ pub enum Part {
 }
 
 /// A part of a text, lent by the text that keeps it.
-#[derive(Clone, Copy)]
+#[derive(Clone, Copy, Debug)]
 pub enum Piece<'a> {
     /// Text as it stands, which is never empty.
     Plain(&'a str),

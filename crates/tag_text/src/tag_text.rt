@@ -8,7 +8,7 @@ use base_types::{List, Memory, TryCopy};
 use std::marker::Model;
 
 /// A text with tags, which contracts see as the list of its parts.
-#[derive(Drop)]
+#[derive(Debug, Drop)]
 pub struct TagText {
     parts: List<Part>,
 }

@@ -1,4 +1,4 @@
-use Rattle.tag_text.proofs.SpellingLemmas.{sound, complete}
+use Rattle.tag_text.proofs.Spells.{sound, complete}
 use Rattle.tag_text.proofs.law.spelling.Goals as goal
 
 pub returns : goal.returns

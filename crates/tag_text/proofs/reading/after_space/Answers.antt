@@ -1,6 +1,6 @@
 use Rattle.std.proofs.Common.{None, arith}
 use Rattle.std.proofs.lemmas.Str.Pattern.{strip_prefix_char}
-use Rattle.tag_text.proofs.Strips.{no_front}
+use Rattle.tag_text.proofs.WithoutSpaces.{no_front}
 use Rattle.tag_text.proofs.reading.after_space.Goals as goal
 
 pub returns-clause-trimmed : goal.returns-clause-trimmed

@@ -1,6 +1,6 @@
 use Rattle.std.proofs.Common.{None, arith}
 use Rattle.std.proofs.lemmas.Str.Pattern.{strip_suffix_char}
-use Rattle.tag_text.proofs.Strips.{no_end}
+use Rattle.tag_text.proofs.WithoutSpaces.{no_end}
 use Rattle.tag_text.proofs.reading.before_space.Goals as goal
 
 pub returns-clause-trimmed : goal.returns-clause-trimmed

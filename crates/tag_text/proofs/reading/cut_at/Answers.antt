@@ -1,4 +1,4 @@
-use Rattle.tag_text.proofs.Strips.{split_is_cut}
+use Rattle.tag_text.proofs.Cut.{split_is_cut}
 use Rattle.tag_text.proofs.reading.cut_at.Goals as goal
 
 pub returns-clause-cut : goal.returns-clause-cut

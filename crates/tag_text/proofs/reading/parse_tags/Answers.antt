@@ -1,6 +1,6 @@
 use Rattle.std.proofs.Common.{rules, ap, ◌∙◌, ◌++◌, ◌∷◌, []}
 use Rattle.tag_text.specs.Parts.{followed, parsed}
-use Rattle.tag_text.proofs.Parsing.{goes_on}
+use Rattle.tag_text.proofs.Parsed.{goes_on}
 use Rattle.tag_text.proofs.reading.parse_tags.Goals as goal
 
 pub loop-before-preserved : goal.loop-before-preserved
