@@ -3,7 +3,8 @@ use Rattle.std.proofs.Common.{◌≡◌, ℕ, zero, suc, ◌+◌, ◌-◌, ◌*�
 use Rattle.std.proofs.Math.Nat.{mul-suc, mul_assoc, pow-suc, pow-zero, mul-zero, mul-one, zero-mul}
 use Rattle.std.proofs.lemmas.Nat.{pow-add}
 use Rattle.std.proofs.lemmas.Bool.{cases_lt}
-use Rattle.time_text.specs.Durations.{most_seconds, delay}
+use Rattle.base_types.specs.Limits.{most_seconds}
+use Rattle.time_text.specs.Durations.{delay}
 
 grows : (x f : ℕ) → 1 ≤ f → x ≤ x * f
 grows x zero h = absurd (omega arith)

@@ -9,9 +9,10 @@ use Rattle.std.proofs.lemmas.Bool.{and_parts, and_right, cond-true, cond-false, 
 use Rattle.std.proofs.lemmas.List.{take-append-drop}
 use Rattle.std.proofs.Math.Seq.{take-append_seam, drop-append_seam}
 use Rattle.time_text.specs.declared.duration.DurationRefused.TheVariants.{BadForm, TooLong}
-use Rattle.time_text.specs.Durations.{most_seconds, is_number, front_digits, after_digits, begins_with_part, front_part, after_part, within_most, sum_of_parts, seconds_of_parts, duration_of, IsPart, IsParts, IsDuration, IsReading}
-use Rattle.time_text.proofs.Readings.{duration_of-number, duration_of-parts}
-use Rattle.time_text.proofs.Numbers.{all_digits}
+use Rattle.base_types.specs.Limits.{most_seconds}
+use Rattle.time_text.specs.Durations.{is_number, front_digits, after_digits, begins_with_part, front_part, after_part, within_most, sum_of_parts, seconds_of_parts, duration_of, IsPart, IsParts, IsDuration, IsReading}
+use Rattle.time_text.proofs.DurationOf.{duration_of-number, duration_of-parts}
+use Rattle.time_text.proofs.IsNumber.{all_digits}
 
 -- digits before a letter are the digits at the front
 prefix_len-digits : (ds : List ℕ) (v : ℕ) (rest : List ℕ) → list_all is_ascii_digit ds ≡ true → is_ascii_digit v ≡ false → prefix_len is_ascii_digit (ds ++ v ∷ rest) ≡ length ds

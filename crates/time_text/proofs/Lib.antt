@@ -1,5 +1,5 @@
-pub mod Grammar
-pub mod Numbers
-pub mod Readings
-mod Samples
-pub mod Waits
+pub mod Delay
+pub mod DurationOf
+pub mod IsNumber
+pub mod IsReading
+pub mod Samples

@@ -1,3 +1,4 @@
+-- Worked examples: the seconds that texts say, and a delay.
 use Rattle.std.specs.Prelude.{◌≡◌, codes, Ok, Err, refl}
 use Rattle.time_text.specs.Durations.{duration_of, delay}
 use Rattle.time_text.specs.declared.duration.DurationRefused.TheVariants.{BadForm, TooLong}

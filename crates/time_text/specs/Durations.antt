@@ -5,12 +5,9 @@ use Rattle.std.specs.Prelude.{Bool, ◌&&◌, nat_lt, nat_le, nat_eq, ◌==◌, 
 use Rattle.std.specs.List.{starts_with, take_while, prefix_len, list_all}
 use Rattle.std.specs.Char.{is_ascii_digit}
 use Rattle.std.specs.Str.Parse.{digits_value}
+use Rattle.base_types.specs.Limits.{most_seconds}
 use Rattle.time_text.specs.declared.duration.DurationRefused.{DurationRefused}
 use Rattle.time_text.specs.declared.duration.DurationRefused.TheVariants.{BadForm, TooLong}
-
--- the most seconds that a span may have: 365 days
-abbrev pub most_seconds : ℕ
-most_seconds = 31536000
 
 -- ---- the grammar
 

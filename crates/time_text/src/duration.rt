@@ -6,10 +6,8 @@ ghost use Rattle.std.specs.Char.{is_ascii_digit};
 ghost use Rattle.std.specs.Str.Parse.{digits_value};
 ghost use Rattle.time_text.specs.Durations.{is_number, front_part, after_part, within_most, seconds_of_parts, duration_of, IsReading};
 
+use base_types::limits::MOST_SECONDS;
 use thiserror::Error;
-
-/// The most seconds that a span may have: 365 days.
-pub(crate) const MOST_SECONDS: u64 = 31_536_000;
 
 const MOST_DIGITS: usize = 8;
 

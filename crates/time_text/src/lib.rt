@@ -3,8 +3,6 @@
 
 mod duration;
 mod instant;
-#[cfg(test)]
-mod tests;
 mod wait;
 
 pub use duration::{DurationRefused, read_duration};

@@ -1,9 +1,10 @@
 //! The wait between two attempts of a retry.
 
 ghost use Rattle.std.specs.Prelude.{◌≡◌, ◌≤◌, ◌*◌, min};
-ghost use Rattle.time_text.specs.Durations.{most_seconds, delay};
+ghost use Rattle.base_types.specs.Limits.{most_seconds};
+ghost use Rattle.time_text.specs.Durations.{delay};
 
-use crate::duration::MOST_SECONDS;
+use base_types::limits::MOST_SECONDS;
 
 /// The seconds from the finish of attempt k - 1 to attempt k, by the `backoff` of a retry: `duration` grows by `factor`
 /// with each attempt, up to 365 days.
@@ -21,7 +22,7 @@ pub fn backoff_delay(duration: u64, factor: u64, k: u32) -> u64
 }
 
 // As the wait at least doubles, it stays 0 or is cut after a few rounds.
-#[tactic(auto, using(crate::proofs::Waits::delay_more, crate::proofs::Waits::delay_stays))]
+#[tactic(auto, using(crate::proofs::Delay::delay_more, crate::proofs::Delay::delay_stays))]
 fn grown(duration: u64, factor: u64, k: u32) -> u64
     requires first { 1 ≤ k }
     requires doubles { 2 ≤ factor }

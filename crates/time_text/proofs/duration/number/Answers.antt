@@ -1,6 +1,6 @@
 use Rattle.std.proofs.Common.{arith}
 use Rattle.std.proofs.lemmas.Str.Parse.{digits_value-take-le}
-use Rattle.time_text.proofs.Numbers.{digits_value_next, digits_value-is_number}
+use Rattle.time_text.proofs.IsNumber.{digits_value_next, digits_value-is_number}
 use Rattle.time_text.proofs.duration.number.Goals as goal
 
 pub overflow_mul-number : goal.overflow_mul-number

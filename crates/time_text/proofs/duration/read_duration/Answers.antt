@@ -1,6 +1,6 @@
 use Rattle.std.proofs.Common.{◌≡◌, subst, sym}
 use Rattle.time_text.specs.Durations.{IsReading, duration_of}
-use Rattle.time_text.proofs.Grammar.{duration_of_reads}
+use Rattle.time_text.proofs.IsReading.{duration_of_reads}
 use Rattle.time_text.proofs.duration.read_duration.Goals as goal
 
 pub returns-clause-grammar : goal.returns-clause-grammar

@@ -1,6 +1,6 @@
 use Rattle.std.proofs.Common.{◌≡◌, ◌⊎◌, min, arith, inl, inr, sym, ◌∙◌}
-use Rattle.time_text.specs.Durations.{most_seconds}
-use Rattle.time_text.proofs.Waits.{delay_by_zero, delay_unchanged}
+use Rattle.base_types.specs.Limits.{most_seconds}
+use Rattle.time_text.proofs.Delay.{delay_by_zero, delay_unchanged}
 use Rattle.time_text.proofs.wait.backoff_delay.Goals as goal
 
 pub returns-then-k-gt1 : goal.returns-then-k-gt1
