@@ -9,9 +9,7 @@ mod numbers;
 mod readable;
 mod refused;
 mod refusing;
-mod rules;
-#[cfg(test)]
-mod tests;
+pub mod rules;
 mod texts;
 mod values;
 
@@ -27,7 +25,6 @@ pub use refusing::{
     has, missing_unless, no_second, refuse_all, refuse_but, refuse_if, refuse_unless_false,
     unsupported_if,
 };
-pub use rules::{BAD_TEXT, MISSING, NOT_WORKFLOW, TOO_MANY, UNSUPPORTED, WRONG_KIND};
 pub use texts::{
     optional_any_text, optional_by, optional_text, optional_text_by, required_any_text,
     required_by, required_text, required_text_by, text_by_if, text_if, written_text,

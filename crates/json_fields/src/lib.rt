@@ -4,8 +4,6 @@
 mod path;
 mod refused;
 mod take;
-#[cfg(test)]
-mod tests;
 
 pub use base_types::Text as FieldText;
 pub use path::FieldPath;
