@@ -4,6 +4,7 @@
 #![tactic(auto)]
 
 mod fields;
+mod kinds;
 mod maps;
 mod numbers;
 mod readable;
@@ -17,12 +18,13 @@ pub use fields::{
     all_or_empty, list_or_empty, optional, optional_json_list, optional_list, optional_object,
     required, required_list,
 };
+pub use kinds::{AnyText, AnyTextBy, Object, TextBy, UpTo};
 pub use maps::map_of;
 pub use numbers::{flag_or, number_or, optional_number, optional_whole, required_number, whole_or};
-pub use readable::{Grammar, Keyed, Readable};
-pub use refused::KindRefused;
+pub use readable::{Fields, Grammar, Keyed, Readable};
+pub use refused::{KindRefused, refused_at, refused_field};
 pub use refusing::{
-    has, missing_unless, no_second, refuse_all, refuse_but, refuse_if, refuse_unless_false,
+    has, missing_unless, no_second, only, refuse_all, refuse_but, refuse_if, refuse_unless_false,
     unsupported_if,
 };
 pub use texts::{
