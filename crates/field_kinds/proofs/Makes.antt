@@ -9,6 +9,7 @@ use Rattle.serde_json.specs.Find.{get}
 use Rattle.json_fields.specs.Paths.{Path, field_of, member_of}
 use Rattle.json_fields.specs.Kinds as is
 use Rattle.field_kinds.specs.Reading.{Read, ◌>>=◌, Kind, refuse_by, or_wrong, or_bad, or_missing}
+use Rattle.field_kinds.specs.Rules as rules
 use Rattle.field_kinds.specs.Kinds.{of, members, at_most, needs_list, needs_object, list_of, object_of}
 use Rattle.field_kinds.specs.Fields.{some, present, optional, required, default, else_}
 
@@ -57,12 +58,12 @@ makes_members kind P makes at i (item d ds) xs e =
     rw (← ok_is (a.0 ∷ b.0) xs b.2) (makes (member_of at i) d a.0 a.1, makes_members kind P makes at (suc i) ds b.0 b.1)
 
 at_most-length : (most : ℕ) (at : Path) (ds es : Items) (long : Bool) → nat_lt most (items_len ds) ≡ long → at_most most at ds ≡ Ok es → items_len es ≤ most
-at_most-length most at ds es true is e = absurd (never (sym (ap (λ long. cond long (refuse_by 6 at) (Ok ds)) is) ∙ e))
+at_most-length most at ds es true is e = absurd (never (sym (ap (λ long. cond long (refuse_by rules.too_many at) (Ok ds)) is) ∙ e))
   where
-    never : refuse_by {A = Items} 6 at ≡ Ok es → ⊥
+    never : refuse_by {A = Items} rules.too_many at ≡ Ok es → ⊥
     never x = absurd cc
 at_most-length most at ds es false is e =
-    let same : ds ≡ es = ok_is ds es (sym (ap (λ long. cond long (refuse_by 6 at) (Ok ds)) is) ∙ e) in
+    let same : ds ≡ es = ok_is ds es (sym (ap (λ long. cond long (refuse_by rules.too_many at) (Ok ds)) is) ∙ e) in
     subst (λ x. items_len x ≤ most) same (ltb-false most (items_len ds) is)
 
 -- a list that is read is no longer than its limit

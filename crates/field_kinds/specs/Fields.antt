@@ -1,11 +1,12 @@
 -- The fields of the object at a path. A field that is null counts as absent, as in the Kubernetes API.
-use Rattle.std.specs.Prelude.{ℕ, List, [], ◌∷◌, Bool, true, false, ◌&&◌, ◌==◌, if◌then◌else◌, Option, Some, None, Ok, Err}
-use Rattle.std.specs.Cmp.Lexicographic.{pointwise}
+use Rattle.std.specs.Prelude.{ℕ, List, [], ◌∷◌, Bool, true, false, not, ◌&&◌, bytes_eq, if◌then◌else◌, Option, Some, None, Ok, Err}
 use Rattle.serde_json.specs.Data.{Data, null, boolean, object, Members, no_members, member}
 use Rattle.serde_json.specs.Find.{get}
+use Rattle.base_types.specs.Names.{is_among}
 use Rattle.json_fields.specs.Paths.{Path, field_of}
 use Rattle.json_fields.specs.Fields.{says_nothing}
 use Rattle.field_kinds.specs.Reading.{Read, ◌>>=◌, Kind, refuse_by, or_missing, or_bad}
+use Rattle.field_kinds.specs.Rules as rules
 use Rattle.field_kinds.specs.Kinds.{text, list_of}
 
 abbrev pub some : {A : Type 0} → Read A → Read (Option A)
@@ -21,7 +22,7 @@ present kind path (Some d) = some (kind path d)
 abbrev pub optional : {A : Type 0} → Kind A → List ℕ → Kind (Option A)
 optional kind name at d = present kind (field_of at name) (get name d)
 
--- rule 2 where the field is absent
+-- refused where the field is absent
 abbrev pub required : {A : Type 0} → Kind A → List ℕ → Kind A
 required kind name at d = optional kind name at d >>= or_missing (field_of at name)
 
@@ -63,10 +64,10 @@ required_if asked kind name at d = if asked then some (required kind name at d) 
 
 -- ---- refused fields
 
--- rule 4 where the field says something
+-- refused where the field says something
 abbrev pub unsupported : Path → Option Data → Read (Unit {0})
 unsupported path None = Ok tt
-unsupported path (Some d) = if says_nothing d then Ok tt else refuse_by 4 path
+unsupported path (Some d) = if says_nothing d then Ok tt else refuse_by rules.unsupported path
 
 abbrev pub refused : List ℕ → Kind (Unit {0})
 refused name at d = unsupported (field_of at name) (get name d)
@@ -94,7 +95,7 @@ unsupported_in known path d = if known then Ok tt else unsupported path (Some d)
 abbrev pub refused_members : List ℕ → Path → Members → Read (Unit {0})
 refused_members but at no_members = Ok tt
 refused_members but at (member key d ms) = do
-  _ ← unsupported_in (pointwise ◌==◌ key but) (field_of at key) d
+  _ ← unsupported_in (bytes_eq key but) (field_of at key) d
   refused_members but at ms
 
 -- every member of an object but one, in the order of the keys
@@ -102,25 +103,43 @@ abbrev pub refused_but : List ℕ → Kind (Unit {0})
 refused_but but at (object ms) = refused_members but at ms
 refused_but but at _ = Ok tt
 
--- ---- fields beside others
+-- ---- which fields may be there
 
+-- neither absent nor null
 abbrev pub is_present : Option Data → Bool
 is_present None = false
 is_present (Some null) = false
 is_present (Some d) = true
 
--- the field is neither absent nor null
+abbrev pub only_member : List (List ℕ) → Path → List ℕ → Data → Read (Unit {0})
+only_member names at key d =
+    if is_present (Some d) && not (is_among names key) then refuse_by rules.not_built (field_of at key) else Ok tt
+
+abbrev pub only_members : List (List ℕ) → Path → Members → Read (Unit {0})
+only_members names at no_members = Ok tt
+only_members names at (member key d ms) = do
+  _ ← only_member names at key d
+  only_members names at ms
+
+-- The first member of an object that is there and has none of these names is refused, in the order of the keys.
+abbrev pub only : List (List ℕ) → Kind (Unit {0})
+only names at (object ms) = only_members names at ms
+only names at _ = Ok tt
+
+-- ---- fields beside others
+
+-- the field is there
 abbrev pub has : List ℕ → Data → Bool
 has name d = is_present (get name d)
 
--- rule 4 for a field that stands beside another
+-- a field that stands beside another is refused
 abbrev pub no_second : Bool → List ℕ → Kind (Unit {0})
-no_second there name at d = if there && has name d then refuse_by 4 (field_of at name) else Ok tt
+no_second there name at d = if there && has name d then refuse_by rules.unsupported (field_of at name) else Ok tt
 
--- rule 2 at a path, unless the condition holds
+-- what should stand at a path is missing, unless the condition holds
 abbrev pub missing_unless : Bool → Path → Read (Unit {0})
-missing_unless there path = if there then Ok tt else refuse_by 2 path
+missing_unless there path = if there then Ok tt else refuse_by rules.missing path
 
--- rule 4 at a path, where the condition holds
+-- what stands at a path is not supported, where the condition holds
 abbrev pub unsupported_if : Bool → Path → Read (Unit {0})
-unsupported_if there path = if there then refuse_by 4 path else Ok tt
+unsupported_if there path = if there then refuse_by rules.unsupported path else Ok tt

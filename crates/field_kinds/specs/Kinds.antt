@@ -5,6 +5,7 @@ use Rattle.serde_json.specs.Events.{items_len}
 use Rattle.json_fields.specs.Paths.{Path, member_of}
 use Rattle.json_fields.specs.Kinds as is
 use Rattle.field_kinds.specs.Reading.{Read, ◌>>=◌, Kind, refuse_by, or_wrong, or_bad}
+use Rattle.field_kinds.specs.Rules as rules
 
 abbrev pub text : Kind (List ℕ)
 text at d = or_wrong at (is.text d)
@@ -19,7 +20,7 @@ flag at d = or_wrong at (is.flag d)
 -- a list, as it stands
 abbrev pub json_list : Kind Data
 json_list at (array ds) = Ok (array ds)
-json_list at _ = refuse_by 3 at
+json_list at _ = refuse_by rules.wrong_kind at
 
 -- an object, as it stands
 abbrev pub json_object : Kind Data
@@ -48,10 +49,10 @@ number_in low high at d = or_wrong at (option_and_then (counted_in low high) (is
 
 -- ---- objects and lists
 
--- rule 3 where the value is no object
+-- refused where the value is no object
 abbrev pub needs_object : Kind (Unit {0})
 needs_object at (object ms) = Ok tt
-needs_object at _ = refuse_by 3 at
+needs_object at _ = refuse_by rules.wrong_kind at
 
 -- an object, read by its fields
 abbrev pub object_of : {A : Type 0} → Kind A → Kind A
@@ -69,9 +70,9 @@ members kind at i (item d ds) = do
 abbrev pub all_of : {A : Type 0} → Kind A → Kind (List A)
 all_of kind at d = or_wrong at (is.list d) >>= members kind at 0
 
--- rule 6 where a list is too long
+-- refused where a list is too long
 abbrev pub at_most : ℕ → Path → Items → Read Items
-at_most most at ds = if nat_lt most (items_len ds) then refuse_by 6 at else Ok ds
+at_most most at ds = if nat_lt most (items_len ds) then refuse_by rules.too_many at else Ok ds
 
 abbrev pub needs_list : ℕ → Kind Items
 needs_list most at d = or_wrong at (is.list d) >>= at_most most at

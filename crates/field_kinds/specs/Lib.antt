@@ -3,3 +3,4 @@ pub mod Kinds
 pub mod Maps
 pub mod Reading
 pub mod Refusing
+pub mod Rules

@@ -3,6 +3,7 @@ use Rattle.std.specs.Prelude.{ℕ, List, [], ◌∷◌, Option, Some, None, Ok}
 use Rattle.serde_json.specs.Data.{object, Members, no_members, member}
 use Rattle.json_fields.specs.Paths.{Path, field_of}
 use Rattle.field_kinds.specs.Reading.{Read, ◌>>=◌, Kind, refuse_by}
+use Rattle.field_kinds.specs.Rules as rules
 use Rattle.field_kinds.specs.Fields.{present}
 
 abbrev pub and_then : {A : Type 0} → Option A → List A → List A
@@ -20,4 +21,4 @@ entries entry at (member key d ms) = do
 -- a map, each of whose members is read by its key and its value
 abbrev pub map_of : {A : Type 0} → (List ℕ → Kind A) → Kind (List A)
 map_of entry at (object ms) = entries entry at ms
-map_of entry at _ = refuse_by 3 at
+map_of entry at _ = refuse_by rules.wrong_kind at

@@ -3,14 +3,15 @@ use Rattle.std.specs.Prelude.{◌≡◌, Result, Ok, Err}
 use Rattle.json_fields.specs.declared.refused.FieldRefused.{FieldRefused}
 use Rattle.json_fields.specs.declared.refused.FieldRefused.TheVariants as fields
 use Rattle.field_kinds.specs.Reading.{Read, refuse_by}
+use Rattle.field_kinds.specs.Rules as rules
 use Rattle.field_kinds.specs.declared.refused.KindRefused.{KindRefused}
 use Rattle.field_kinds.specs.declared.refused.KindRefused.TheVariants.{Memory, Rule}
 
--- a field of another kind breaks rule 3, and one that is not supported breaks rule 4
+-- a field that was not taken, by the rule that it breaks
 abbrev pub refused_as : FieldRefused → KindRefused
 refused_as fields.Memory = Memory
-refused_as (fields.WrongKind path) = Rule 3 path
-refused_as (fields.Unsupported path) = Rule 4 path
+refused_as (fields.WrongKind path) = Rule rules.wrong_kind path
+refused_as (fields.Unsupported path) = Rule rules.unsupported path
 
 abbrev pub Refuses : {Y : Type 0} → KindRefused → Read Y → Type 0
 Refuses Memory meant = Unit {0}

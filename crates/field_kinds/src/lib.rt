@@ -4,14 +4,13 @@
 #![tactic(auto)]
 
 mod fields;
+mod kinds;
 mod maps;
 mod numbers;
 mod readable;
 mod refused;
 mod refusing;
-mod rules;
-#[cfg(test)]
-mod tests;
+pub mod rules;
 mod texts;
 mod values;
 
@@ -19,15 +18,15 @@ pub use fields::{
     all_or_empty, list_or_empty, optional, optional_json_list, optional_list, optional_object,
     required, required_list,
 };
+pub use kinds::{AnyText, AnyTextBy, Object, TextBy, UpTo};
 pub use maps::map_of;
 pub use numbers::{flag_or, number_or, optional_number, optional_whole, required_number, whole_or};
-pub use readable::{Grammar, Keyed, Readable};
-pub use refused::KindRefused;
+pub use readable::{Fields, Grammar, Keyed, Readable};
+pub use refused::{KindRefused, refused_at, refused_field};
 pub use refusing::{
-    has, missing_unless, no_second, refuse_all, refuse_but, refuse_if, refuse_unless_false,
+    has, missing_unless, no_second, only, refuse_all, refuse_but, refuse_if, refuse_unless_false,
     unsupported_if,
 };
-pub use rules::{BAD_TEXT, MISSING, NOT_WORKFLOW, TOO_MANY, UNSUPPORTED, WRONG_KIND};
 pub use texts::{
     optional_any_text, optional_by, optional_text, optional_text_by, required_any_text,
     required_by, required_text, required_text_by, text_by_if, text_if, written_text,

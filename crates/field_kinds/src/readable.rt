@@ -1,16 +1,13 @@
-//! What can be read from a value, from a text, and from a key with its value.
+//! What can be read from a value, from the fields of an object, from a text, and from a key with its value.
 
 ghost use Rattle.std.specs.Prelude.{◌≡◌, ℕ, List as Seq, Option, IfOk};
 ghost use Rattle.serde_json.specs.Data.{Data};
 ghost use Rattle.serde_json.specs.View.{view};
 ghost use Rattle.field_kinds.specs.Reading.{Read};
 ghost use Rattle.field_kinds.specs.Refusing.{Reads};
-ghost use Rattle.field_kinds.specs.Kinds.{text, all_of};
 
-use crate::refused::refused_at;
-use crate::rules::WRONG_KIND;
-use crate::{KindRefused, all_of};
-use base_types::{List, Memory, Text};
+use crate::KindRefused;
+use base_types::Memory;
 use json_fields::FieldPath;
 use serde_json::Value;
 use std::alloc::Global;
@@ -35,6 +32,27 @@ pub trait Readable {
         around: &Self::Around,
     ) -> Result<Self::Made, KindRefused>
         ensures { Reads result (kind around.now at.now (view value.now)) };
+}
+
+/// A way to read an object: its fields in reading order. `Object<T>` reads a value by it.
+pub trait Fields {
+    /// What is read.
+    type Made: Drop;
+
+    /// What must be known of the surroundings, `()` where that is nothing.
+    type Around;
+
+    /// What the fields of the object at a path read as.
+    ghost fields: { Self.Around → Seq ℕ → Data → Read Self.Made };
+
+    /// Reads the fields of the object at a path.
+    fn read_fields(
+        alloc: Global,
+        object: &Value,
+        at: &FieldPath,
+        around: &Self::Around,
+    ) -> Result<Self::Made, KindRefused>
+        ensures { Reads result (fields around.now at.now (view object.now)) };
 }
 
 /// A way to read a member of a map: its key and its value.
@@ -70,37 +88,4 @@ pub trait Grammar {
     /// Reads a text.
     fn read(alloc: Global, text: &str) -> Result<Option<Self::Meaning>, Memory>
         ensures { IfOk result (λ read. read ≡ meaning text.now) };
-}
-
-impl Readable for Text {
-    type Made = Text;
-
-    type Around = ();
-
-    ghost kind = { λ _. text };
-
-    fn read(alloc: Global, value: &Value, at: &FieldPath, _: &()) -> Result<Text, KindRefused> {
-        match value {
-            Value::String(text) => Ok(Text::from_text(alloc, text.as_str())?),
-            _ => Err(refused_at(WRONG_KIND, at)?),
-        }
-    }
-}
-
-/// A list of any length.
-impl<T: Readable> Readable for List<T> {
-    type Made = List<T::Made>;
-
-    type Around = T::Around;
-
-    ghost kind = { λ around. all_of (T.kind around) };
-
-    fn read(
-        alloc: Global,
-        value: &Value,
-        at: &FieldPath,
-        around: &T::Around,
-    ) -> Result<List<T::Made>, KindRefused> {
-        all_of::<T>(alloc, value, at, around)
-    }
 }

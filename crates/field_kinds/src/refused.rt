@@ -60,7 +60,7 @@ impl From<FieldRefused> for KindRefused {
 }
 
 /// The refusal by a rule of the value at a path.
-pub(crate) fn refused_at(rule: u32, at: &FieldPath) -> Result<KindRefused, Memory>
+pub fn refused_at(rule: u32, at: &FieldPath) -> Result<KindRefused, Memory>
     ensures { IfOk result (λ refusal. refusal ≡ KindRefused.Rule rule at.now) }
 {
     Ok(KindRefused::Rule {
@@ -70,7 +70,7 @@ pub(crate) fn refused_at(rule: u32, at: &FieldPath) -> Result<KindRefused, Memor
 }
 
 /// The refusal by a rule of a field of the object at a path.
-pub(crate) fn refused_field(rule: u32, name: &str, at: &FieldPath) -> Result<KindRefused, Memory>
+pub fn refused_field(rule: u32, name: &str, at: &FieldPath) -> Result<KindRefused, Memory>
     ensures { IfOk result (λ refusal. refusal ≡ KindRefused.Rule rule (field_of at.now name.now)) }
 {
     Ok(KindRefused::Rule {

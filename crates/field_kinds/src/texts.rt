@@ -1,4 +1,4 @@
-//! Texts, and texts of a grammar.
+//! Fields that are texts, or texts of a grammar.
 
 ghost use Rattle.std.specs.Prelude.{◌≡◌};
 ghost use Rattle.serde_json.specs.View.{view};
@@ -6,11 +6,10 @@ ghost use Rattle.field_kinds.specs.Refusing.{Reads};
 ghost use Rattle.field_kinds.specs.Kinds.{text, any_text, of};
 ghost use Rattle.field_kinds.specs.Fields.{optional, required, required_if, written_text, written_or, written_of};
 
-use crate::refused::refused_field;
-use crate::rules::{BAD_TEXT, MISSING};
-use crate::{Grammar, KindRefused};
+use crate::kinds::{AnyText, AnyTextBy, TextBy, meaning_of};
+use crate::{Grammar, KindRefused, optional, required};
 use base_types::Text;
-use json_fields::{FieldPath, take_any_text, take_text};
+use json_fields::FieldPath;
 use serde_json::Value;
 use std::alloc::Global;
 
@@ -23,7 +22,7 @@ pub fn optional_text(
 ) -> Result<Option<Text>, KindRefused>
     ensures { Reads result (optional text name.now at.now (view object.now)) }
 {
-    Ok(take_text(alloc, object, name, at)?)
+    optional::<Text>(alloc, object, name, at, &())
 }
 
 /// A text that must be there.
@@ -35,10 +34,7 @@ pub fn required_text(
 ) -> Result<Text, KindRefused>
     ensures { Reads result (required text name.now at.now (view object.now)) }
 {
-    match take_text(alloc, object, name, at)? {
-        Some(text) => Ok(text),
-        None => Err(refused_field(MISSING, name, at)?),
-    }
+    required::<Text>(alloc, object, name, at, &())
 }
 
 /// A text, a whole number or a truth value, as text.
@@ -50,7 +46,7 @@ pub fn optional_any_text(
 ) -> Result<Option<Text>, KindRefused>
     ensures { Reads result (optional any_text name.now at.now (view object.now)) }
 {
-    Ok(take_any_text(alloc, object, name, at)?)
+    optional::<AnyText>(alloc, object, name, at, &())
 }
 
 /// A text, a whole number or a truth value, as text, that must be there.
@@ -62,10 +58,7 @@ pub fn required_any_text(
 ) -> Result<Text, KindRefused>
     ensures { Reads result (required any_text name.now at.now (view object.now)) }
 {
-    match take_any_text(alloc, object, name, at)? {
-        Some(text) => Ok(text),
-        None => Err(refused_field(MISSING, name, at)?),
-    }
+    required::<AnyText>(alloc, object, name, at, &())
 }
 
 /// What a text means by a grammar, given as any text.
@@ -77,13 +70,7 @@ pub fn optional_by<G: Grammar>(
 ) -> Result<Option<G::Meaning>, KindRefused>
     ensures { Reads result (optional (of G.meaning any_text) name.now at.now (view object.now)) }
 {
-    match take_any_text(alloc, object, name, at)? {
-        None => Ok(None),
-        Some(text) => match G::read(alloc, text.as_str())? {
-            Some(meaning) => Ok(Some(meaning)),
-            None => Err(refused_field(BAD_TEXT, name, at)?),
-        },
-    }
+    optional::<AnyTextBy<G>>(alloc, object, name, at, &())
 }
 
 /// What a text that must be there means by a grammar, given as any text.
@@ -95,10 +82,7 @@ pub fn required_by<G: Grammar>(
 ) -> Result<G::Meaning, KindRefused>
     ensures { Reads result (required (of G.meaning any_text) name.now at.now (view object.now)) }
 {
-    match optional_by::<G>(alloc, object, name, at)? {
-        Some(meaning) => Ok(meaning),
-        None => Err(refused_field(MISSING, name, at)?),
-    }
+    required::<AnyTextBy<G>>(alloc, object, name, at, &())
 }
 
 /// What a text means by a grammar, given as a text alone.
@@ -110,13 +94,7 @@ pub fn optional_text_by<G: Grammar>(
 ) -> Result<Option<G::Meaning>, KindRefused>
     ensures { Reads result (optional (of G.meaning text) name.now at.now (view object.now)) }
 {
-    match take_text(alloc, object, name, at)? {
-        None => Ok(None),
-        Some(text) => match G::read(alloc, text.as_str())? {
-            Some(meaning) => Ok(Some(meaning)),
-            None => Err(refused_field(BAD_TEXT, name, at)?),
-        },
-    }
+    optional::<TextBy<G>>(alloc, object, name, at, &())
 }
 
 /// What a text that must be there means by a grammar, given as a text alone.
@@ -128,10 +106,7 @@ pub fn required_text_by<G: Grammar>(
 ) -> Result<G::Meaning, KindRefused>
     ensures { Reads result (required (of G.meaning text) name.now at.now (view object.now)) }
 {
-    match optional_text_by::<G>(alloc, object, name, at)? {
-        Some(meaning) => Ok(meaning),
-        None => Err(refused_field(MISSING, name, at)?),
-    }
+    required::<TextBy<G>>(alloc, object, name, at, &())
 }
 
 /// A text, an empty one counting as absent.
@@ -143,7 +118,7 @@ pub fn written_text(
 ) -> Result<Option<Text>, KindRefused>
     ensures { Reads result (written_text name.now at.now (view object.now)) }
 {
-    match take_text(alloc, object, name, at)? {
+    match optional_text(alloc, object, name, at)? {
         Some(text) => {
             if text.as_str().is_empty() {
                 Ok(None)
@@ -182,10 +157,7 @@ pub fn written_text_by<G: Grammar>(
 {
     match written_text(alloc, object, name, at)? {
         None => Ok(None),
-        Some(text) => match G::read(alloc, text.as_str())? {
-            Some(meaning) => Ok(Some(meaning)),
-            None => Err(refused_field(BAD_TEXT, name, at)?),
-        },
+        Some(text) => Ok(Some(meaning_of::<G>(alloc, &text, &at.field(name)?)?)),
     }
 }
 

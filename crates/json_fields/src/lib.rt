@@ -4,12 +4,11 @@
 mod path;
 mod refused;
 mod take;
-#[cfg(test)]
-mod tests;
 
 pub use base_types::Text as FieldText;
 pub use path::FieldPath;
 pub use refused::FieldRefused;
 pub use take::{
-    refuse, says_nothing, take_any_text, take_flag, take_list, take_object, take_text, take_whole,
+    any_text, refuse, says_nothing, take_any_text, take_flag, take_list, take_object, take_text,
+    take_whole,
 };

@@ -45,7 +45,8 @@ pub fn take_any_text(
     }
 }
 
-fn any_text(alloc: Global, value: &Value) -> Result<Option<FieldText>, Memory>
+/// A value as a text: a text, or a whole number or a truth value as text. None where it is of another kind.
+pub fn any_text(alloc: Global, value: &Value) -> Result<Option<FieldText>, Memory>
     ensures { IfOk result (λ text. text ≡ kinds.any_text (view value.now)) }
 {
     match value {
