@@ -1,2 +1,3 @@
 pub mod JsonCode
 pub mod Valid
+pub mod FirstForm

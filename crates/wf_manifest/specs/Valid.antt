@@ -1,8 +1,9 @@
 -- What a checked manifest keeps: a named fact for each rule that it was asked. The checker refuses a manifest where one of
--- them fails, and the meaning, the evaluator and the laws rest on them. Where no document is cited the rule is this
--- project's own.
-use Rattle.std.specs.Prelude.{ℕ, ◌<◌, List, [], ◌∷◌, ◌++◌, Bool, true, ◌&&◌, ◌||◌, Option, Some, None, is_some, IsTrue, nat_le, length, map, bytes_eq}
-use Rattle.std.specs.List.{list_all, find, AllByRecursion}
+-- them fails, and the meaning, the evaluator and the laws rest on them. What a tag may name is not among them. Where no
+-- document is cited the rule is this project's own.
+use Rattle.std.specs.Prelude.{ℕ, ◌<◌, List, [], ◌∷◌, ◌++◌, Bool, true, not, ◌&&◌, ◌||◌, Option, Some, None, is_some, is_none, IsTrue, nat_le, length, map, bytes_eq, All}
+use Rattle.std.specs.List.{list_all, list_any, find, flat_map}
+use Rattle.base_types.specs.Bytes.{is_name}
 use Rattle.base_types.specs.Limits.{most_members}
 use Rattle.base_types.specs.Names.{is_among, all_differ}
 use Rattle.node_names.specs.Names.{is_step_name}
@@ -12,6 +13,7 @@ use Rattle.wf_manifest.specs.declared.calls.Argument.{Argument}
 use Rattle.wf_manifest.specs.declared.calls.Hook.{Hook}
 use Rattle.wf_manifest.specs.declared.calls.Call.{Call}
 use Rattle.wf_manifest.specs.declared.calls.Task.{Task}
+use Rattle.wf_manifest.specs.declared.calls.Dag.{Dag}
 use Rattle.wf_manifest.specs.declared.templates.Input.{Input}
 use Rattle.wf_manifest.specs.declared.templates.Body.{Body}
 use Rattle.wf_manifest.specs.declared.templates.Body.TheVariants as body
@@ -42,6 +44,23 @@ calls_of (body.Steps groups) = calls_in groups
 calls_of (body.Dag dag) = map (λ t. t.call) dag.tasks
 calls_of (body.Suspend duration) = []
 
+abbrev pub argument_names : List Argument → List (List ℕ)
+argument_names given = map (λ a. a.name) given
+
+abbrev pub hook_lists : Option Hook → List (List (List ℕ))
+hook_lists None = []
+hook_lists (Some hook) = argument_names hook.arguments ∷ []
+
+abbrev pub call_lists : Call → List (List (List ℕ))
+call_lists c = argument_names c.arguments ∷ hook_lists c.exit
+
+abbrev pub template_lists : Template → List (List (List ℕ))
+template_lists t = map (λ i. i.name) t.inputs ∷ map (λ o. o.name) t.outputs ∷ flat_map call_lists (calls_of t.body)
+
+-- the names in each list of parameters
+abbrev pub parameter_lists : Manifest → List (List (List ℕ))
+parameter_lists m = argument_names m.arguments ∷ flat_map template_lists m.templates
+
 -- ---- names
 
 -- no two templates have one name (Argo, "Template Types")
@@ -55,6 +74,14 @@ steps_differ t = all_differ (map (λ c. c.name) (calls_of t.body))
 -- the names of its steps and tasks are of their grammar
 abbrev pub has_step_names : Template → Bool
 has_step_names t = list_all (λ c. is_step_name c.name) (calls_of t.body)
+
+-- no two parameters of a list have one name (Argo, "Parameters")
+abbrev pub parameters_differ : Manifest → Bool
+parameters_differ m = list_all all_differ (parameter_lists m)
+
+-- the names of parameters are of their grammar
+abbrev pub has_parameter_names : Manifest → Bool
+has_parameter_names m = list_all (list_all is_name) (parameter_lists m)
 
 -- ---- calls (Argo, "Template Types", "Steps" and "Exit handlers")
 
@@ -92,11 +119,15 @@ body_is_short (body.Suspend duration) = true
 abbrev pub lists_are_short : Manifest → Bool
 lists_are_short m = is_short m.templates && list_all (λ t. body_is_short t.body) m.templates
 
+-- and so are the lists of parameters
+abbrev pub parameters_are_short : Manifest → Bool
+parameters_are_short m = list_all is_short (parameter_lists m)
+
 -- ---- inputs (Argo, "Parameters")
 
 -- an input has the argument of its name, a value or a default
 abbrev pub has_value : List Argument → Input → Bool
-has_value given i = is_among (map (λ a. a.name) given) i.name || is_some i.value || is_some i.default
+has_value given i = is_among (argument_names given) i.name || is_some i.value || is_some i.default
 
 abbrev pub gives_values : Option Template → List Argument → Bool
 gives_values None given = true
@@ -132,11 +163,31 @@ names_in None None = []
 abbrev pub waits_for : Task → List (List ℕ)
 waits_for t = names_in t.depends t.dependencies
 
+abbrev pub task_names : Dag → List (List ℕ)
+task_names dag = map (λ t. t.call.name) dag.tasks
+
+-- the targets and the tasks that a task waits for are tasks of the DAG
+abbrev pub tasks_are_there : Body → Bool
+tasks_are_there (body.Dag dag) =
+    list_all (is_among (task_names dag)) dag.targets
+    && list_all (λ t. list_all (is_among (task_names dag)) (waits_for t)) dag.tasks
+tasks_are_there _ = true
+
+-- a task that may stand beside one with `depends`
+abbrev pub fits_depends : Task → Bool
+fits_depends t = is_none t.dependencies && is_none t.call.continue_on
+
+-- where a task of a DAG has `depends`, none has `dependencies` or `continueOn`
+abbrev pub is_of_one_spelling : Body → Bool
+is_of_one_spelling (body.Dag dag) =
+    not (list_any (λ t. is_some t.depends) dag.tasks) || list_all fits_depends dag.tasks
+is_of_one_spelling _ = true
+
 -- each task stands higher than those that it waits for, so that none waits for itself
 pub record HasRank (tasks : List Task) : Type 0 where
   pub rank : List ℕ → ℕ
   pub higher :
-      AllByRecursion (λ t. AllByRecursion (λ name. rank name < rank t.call.name) (waits_for t)) tasks
+      All (λ t. All (λ name. rank name < rank t.call.name) (waits_for t)) tasks
 
 abbrev pub HasNoCircle : Body → Type 0
 HasNoCircle body.Pod = Unit {0}
@@ -150,9 +201,14 @@ pub record Valid (m : Manifest) : Type 0 where
   pub templates_differ : IsTrue (templates_differ m)
   pub steps_differ : IsTrue (list_all steps_differ m.templates)
   pub step_names : IsTrue (list_all has_step_names m.templates)
+  pub parameters_differ : IsTrue (parameters_differ m)
+  pub parameter_names : IsTrue (has_parameter_names m)
   pub calls : IsTrue (list_all (calls_are_there m) m.templates)
   pub entry : IsTrue (entry_is_there m)
   pub short : IsTrue (lists_are_short m)
+  pub short_parameters : IsTrue (parameters_are_short m)
   pub values : IsTrue (list_all (calls_give_values m) m.templates)
   pub entry_values : IsTrue (entry_gives_values m)
-  pub no_circle : AllByRecursion (λ t. HasNoCircle t.body) m.templates
+  pub tasks : IsTrue (list_all (λ t. tasks_are_there t.body) m.templates)
+  pub one_spelling : IsTrue (list_all (λ t. is_of_one_spelling t.body) m.templates)
+  pub no_circle : All (λ t. HasNoCircle t.body) m.templates

@@ -6,8 +6,6 @@ mod copies;
 mod json;
 mod manifest;
 mod templates;
-#[cfg(test)]
-mod tests;
 
 pub use calls::{
     Argument, Arguments, Call, ContinueOn, Dag, Group, Groups, Hook, Loop, Task, Tasks,
