@@ -1,5 +1,6 @@
 pub mod Samples
 pub mod RowsSteps
+pub mod RowsArguments
 pub mod RowsDags
 pub mod RowsLoops
 pub mod RowsPods
