@@ -1,6 +1,9 @@
 pub mod Samples
 pub mod RowsSteps
 pub mod RowsArguments
+pub mod RowsItems
+pub mod RowsExits
+pub mod RowsSuspends
 pub mod RowsDags
 pub mod RowsLoops
 pub mod RowsPods

@@ -1,5 +1,6 @@
 -- What the worked examples are written with: manifests, facts, and the lines of a tree.
 use Rattle.std.specs.Prelude.{ℕ, List, [], ◌∷◌, ◌++◌, false, Option, Some, None, if◌then◌else◌, bytes_eq, codes, pos, refl, flat_map}
+use Rattle.serde_json.specs.Data.{string, array, Items, no_items, item}
 use Rattle.tree_types.specs.declared.path.Sel.{Sel}
 use Rattle.tree_types.specs.declared.path.Sel.TheVariants.{Main, Task as task_sel}
 use Rattle.tree_types.specs.declared.path.LockId.{LockId}
@@ -14,6 +15,7 @@ use Rattle.tag_text.specs.Parts.{parts_of}
 use Rattle.depends_expr.specs.Expression.{Expression}
 use Rattle.wf_manifest.specs.declared.calls.Argument.{Argument}
 use Rattle.wf_manifest.specs.declared.calls.Loop.{Loop}
+use Rattle.wf_manifest.specs.declared.calls.Loop.TheVariants as each
 use Rattle.wf_manifest.specs.declared.calls.Hook.{Hook}
 use Rattle.wf_manifest.specs.declared.calls.Call.{Call}
 use Rattle.wf_manifest.specs.declared.calls.Task.{Task}
@@ -76,6 +78,14 @@ call_when name w = record (call name) { when = Some (parts_of w) }
 
 abbrev pub call_each : List ℕ → Loop → Call
 call_each name l = record (call name) { each = Some l }
+
+-- a loop over texts
+abbrev pub text_items : List (List ℕ) → Items
+text_items [] = no_items
+text_items (t ∷ ts) = item (string t) (text_items ts)
+
+abbrev pub over : List (List ℕ) → Loop
+over ts = each.Items (array (text_items ts))
 
 abbrev pub hook_with : List ℕ → List Argument → Hook
 hook_with template arguments = record { template = template; arguments = arguments; short = false }
