@@ -4,6 +4,9 @@ pub mod RowsArguments
 pub mod RowsItems
 pub mod RowsExits
 pub mod RowsSuspends
+pub mod RowsBranches
+pub mod RowsRetries
+pub mod RowsGuards
 pub mod RowsDags
 pub mod RowsLoops
 pub mod RowsPods
