@@ -13,5 +13,6 @@ pub mod RowsPods
 pub mod RowsCalls
 pub mod RowsDepth
 pub mod RowsOutputs
+pub mod RowsValues
 pub mod Flattening
 pub mod RowsParts

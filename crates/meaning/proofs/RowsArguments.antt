@@ -77,11 +77,13 @@ pub a_parameter_of_the_workflow : params_at (codes "w[0].a") with_arguments (Sta
 unfolding digits
 a_parameter_of_the_workflow = refl
 
+-- the entrypoint takes the argument p of the workflow
 pub the_entrypoint_takes_p : params_at (codes "w") with_arguments (Started ∷ [])
     ≡ param (codes "o") (codes "of-w") ∷ []
 unfolding digits
 the_entrypoint_takes_p = refl
 
+-- and the exit handler the argument x
 pub the_exit_handler_takes_x : params_at (codes "w.onExit") with_arguments (Started ∷ [])
     ≡ param (codes "x") (codes "5") ∷ []
 unfolding digits

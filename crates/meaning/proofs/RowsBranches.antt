@@ -165,6 +165,7 @@ behind_covered =
     dag_workflow (codes "o")
     (covering (codes "A") ∷ covering_errors (codes "B") ∷ task_after (codes "C") (codes "A" ∷ codes "B" ∷ []) ∷ []) []
 
+-- A failed and B is Error, and C begins all the same; the DAG is Succeeded
 pub both_are_covered : printed behind_covered (Started ∷ ended 0 failed ∷ ended 1 errored ∷ ended 2 succeeded ∷ [])
     ≡ codes "workflow o Succeeded"
     ∷ codes "  Succeeded DAG o"

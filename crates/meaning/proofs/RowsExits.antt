@@ -34,6 +34,7 @@ pub the_tags_of_its_step : params_at (codes "h[0].a.onExit")
 unfolding digits
 the_tags_of_its_step = refl
 
+-- a task's tags begin with `tasks`
 pub the_tags_of_its_task : params_at (codes "h.A.onExit")
     (dag_workflow (codes "h") (task (with_hook (codes "A") (codes "{{tasks.A.status}}")) ∷ []) (echo ∷ []))
     (Started ∷ settled (task_sel 0 ∷ []) errored ∷ [])
@@ -54,11 +55,13 @@ abbrev u_and_v : List Fact
 u_and_v =
     Started ∷ settled (Group 0 ∷ Step 0 ∷ Item 0 ∷ []) succeeded ∷ settled (Group 0 ∷ Step 0 ∷ Item 1 ∷ []) failed ∷ []
 
+-- the hook of u says u, and that it Succeeded
 pub the_first_items_hook : params_at (codes "h[0].a(0:u).onExit") hook_of_each u_and_v
     ≡ param (codes "x") (codes "u is Succeeded") ∷ []
 unfolding digits serde_json_on_literals
 the_first_items_hook = refl
 
+-- the hook of v says v, and that it Failed
 pub the_second_items_hook : params_at (codes "h[0].a(1:v).onExit") hook_of_each u_and_v
     ≡ param (codes "x") (codes "v is Failed") ∷ []
 unfolding digits serde_json_on_literals
@@ -187,21 +190,24 @@ telling =
     ∷ template (codes "tell") (body.Steps ((call_echo (codes "a") (codes "{{workflow.status}}") ∷ []) ∷ [])) ∷ echo ∷ []))
     { on_exit = Some (codes "tell") }
 
+-- below the exit handler the tag is Succeeded where the entrypoint is
 pub it_tells_a_success : params_at (codes "w.onExit[0].a") telling (Started ∷ settled [] succeeded ∷ [])
     ≡ param (codes "x") (codes "Succeeded") ∷ []
 unfolding digits
 it_tells_a_success = refl
 
+-- and Failed where that is Failed
 pub it_tells_a_failure : params_at (codes "w.onExit[0].a") telling (Started ∷ settled [] failed ∷ [])
     ≡ param (codes "x") (codes "Failed") ∷ []
 unfolding digits
 it_tells_a_failure = refl
 
--- a default of an input may use it, and so may a memoization key
+-- an exit handler with a memoization key that uses the tag
 abbrev keyed_handler : Manifest
 keyed_handler =
     record (workflow_of (codes "w") (template (codes "main") body.Pod ∷ keyed_by_status ∷ [])) { on_exit = Some (codes "m") }
 
+-- there the key has a value, with which its cache is asked
 pub a_key_of_the_exit_handler : wants keyed_handler (Started ∷ settled [] errored ∷ [])
     ≡ want.LookUp (path (Exit ∷ [])) (codes "mc") (codes "Error") None ∷ []
 unfolding digits

@@ -55,6 +55,7 @@ t = d ++ task_sel 0 ∷ []
 
 -- ---- which path carries which lock
 
+-- the empty path carries the workflow's own lock
 pub the_workflows_own : carried_at [] ≡ Some (mutex (codes "own"))
 the_workflows_own = refl
 
@@ -62,9 +63,11 @@ the_workflows_own = refl
 pub none_of_main : carried_at (Main ∷ []) ≡ None
 none_of_main = refl
 
+-- nor has a group of steps
 pub none_of_a_group : carried_at (Main ∷ Group 0 ∷ []) ≡ None
 none_of_a_group = refl
 
+-- a step's path carries the lock of its template
 pub of_a_step : carried_at a ≡ Some (mutex (codes "l1"))
 of_a_step = refl
 
@@ -80,21 +83,27 @@ of_a_hook = refl
 pub none_of_a_loop : carried_at b ≡ None
 none_of_a_loop = refl
 
+-- as here
 pub of_an_item : carried_at (b ++ Item 0 ∷ []) ≡ Some (mutex (codes "l1"))
 of_an_item = refl
 
+-- the hook of an item has its own too
 pub of_an_items_hook : carried_at (b ++ Item 0 ∷ Exit ∷ []) ≡ Some (mutex (codes "l2"))
 of_an_items_hook = refl
 
+-- behind the TaskGroup no hook stands
 pub none_behind_a_loop : carried_at (b ++ Exit ∷ []) ≡ None
 none_behind_a_loop = refl
 
+-- a DAG's path carries the lock of its template
 pub of_a_dag : carried_at d ≡ Some (mutex (codes "g"))
 of_a_dag = refl
 
+-- and a task's that of its own
 pub of_a_task : carried_at t ≡ Some (mutex (codes "l2"))
 of_a_task = refl
 
+-- the exit handler's path carries the lock of its template
 pub of_the_exit_handler : carried_at (Exit ∷ []) ≡ Some (mutex (codes "l1"))
 of_the_exit_handler = refl
 
@@ -104,41 +113,47 @@ none_where_nothing_stands = refl
 
 -- ---- what a lock guards
 
--- the workflow's own lock: every pod, that of the exit handler too
+-- the workflow's own lock guards every pod
 pub own_guards_a_pod : guards [] (a ++ Attempt 0 ∷ []) ≡ true
 own_guards_a_pod = refl
 
+-- also that of the exit handler
 pub own_guards_the_exit_handler : guards [] (Exit ∷ Attempt 0 ∷ []) ≡ true
 own_guards_the_exit_handler = refl
 
--- a template's lock: its node, and each attempt below it
+-- a template's lock guards its node
 pub it_guards_its_node : guards a a ≡ true
 it_guards_its_node = refl
 
+-- and each attempt below it
 pub it_guards_an_attempt : guards a (a ++ Attempt 3 ∷ []) ≡ true
 it_guards_an_attempt = refl
 
--- but not its exit hook, nor what stands below that
+-- but not its exit hook
 pub it_does_not_guard_its_hook : guards a (a ++ Exit ∷ []) ≡ false
 it_does_not_guard_its_hook = refl
 
+-- nor what stands below that
 pub it_does_not_guard_the_hooks_pod : guards a (a ++ Exit ∷ Attempt 0 ∷ []) ≡ false
 it_does_not_guard_the_hooks_pod = refl
 
--- a DAG's lock guards its tasks, with their exit hooks: those are of calls inside it
+-- a DAG's lock guards its tasks
 pub it_guards_a_task : guards d t ≡ true
 it_guards_a_task = refl
 
+-- with their exit hooks, which are of calls inside it
 pub it_guards_a_tasks_hook : guards d (t ++ Exit ∷ []) ≡ true
 it_guards_a_tasks_hook = refl
 
--- neither what stands beside it, nor what stands above it
+-- a step's lock does not guard another step
 pub it_does_not_guard_another_step : guards a d ≡ false
 it_does_not_guard_another_step = refl
 
+-- nor another item of a loop
 pub it_does_not_guard_another_item : guards (b ++ Item 0 ∷ []) (b ++ Item 1 ∷ []) ≡ false
 it_does_not_guard_another_item = refl
 
+-- nor what stands above it
 pub it_does_not_guard_what_is_above : guards a (Main ∷ Group 0 ∷ []) ≡ false
 it_does_not_guard_what_is_above = refl
 
@@ -157,18 +172,22 @@ locks_from front (s ∷ rest) =
 abbrev locks_of : Sels → List LockId
 locks_of q = locks_from [] q
 
+-- the pod of a step: the workflow's lock, and that of its template
 pub of_a_steps_pod : locks_of (a ++ Attempt 0 ∷ []) ≡ mutex (codes "own") ∷ mutex (codes "l1") ∷ []
 of_a_steps_pod = refl
 
--- the lock of the step is not among those of its hook's pod
+-- its hook's pod: not the lock of the step, but that of the hook's own template
 pub of_a_hooks_pod : locks_of (a ++ Exit ∷ Attempt 0 ∷ []) ≡ mutex (codes "own") ∷ mutex (codes "l2") ∷ []
 of_a_hooks_pod = refl
 
+-- an item's pod as a step's
 pub of_an_items_pod : locks_of (b ++ Item 0 ∷ Attempt 0 ∷ []) ≡ mutex (codes "own") ∷ mutex (codes "l1") ∷ []
 of_an_items_pod = refl
 
+-- a task's pod: also the lock of the DAG that it is in
 pub of_a_tasks_pod : locks_of (t ++ Attempt 0 ∷ []) ≡ mutex (codes "own") ∷ mutex (codes "g") ∷ mutex (codes "l2") ∷ []
 of_a_tasks_pod = refl
 
+-- the exit handler's pod: the workflow's lock, and that of its own template
 pub of_the_exit_handlers_pod : locks_of (Exit ∷ Attempt 0 ∷ []) ≡ mutex (codes "own") ∷ mutex (codes "l1") ∷ []
 of_the_exit_handlers_pod = refl

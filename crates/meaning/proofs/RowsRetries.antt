@@ -43,31 +43,37 @@ transient = record errored { transient = true }
 abbrev a_second_one : List ℕ → List (List ℕ)
 a_second_one first = codes "workflow r Running" ∷ codes "  Running Retry r" ∷ first ∷ codes "    Running Pod r(1)" ∷ []
 
+-- OnFailure does not try an Error again
 pub on_failure_after_an_error : printed (once_more OnFailure) (Started ∷ ended 0 errored ∷ [])
     ≡ codes "workflow r Error" ∷ codes "  Error Retry r" ∷ codes "    Error Pod r(0)" ∷ []
 unfolding digits
 on_failure_after_an_error = refl
 
+-- OnError does
 pub on_error_after_an_error : printed (once_more OnError) (Started ∷ ended 0 errored ∷ [])
     ≡ a_second_one (codes "    Error Pod r(0)")
 unfolding digits
 on_error_after_an_error = refl
 
+-- Always tries both again: a failure
 pub always_after_a_failure : printed (once_more Always) (Started ∷ ended 0 failed ∷ [])
     ≡ a_second_one (codes "    Failed Pod r(0)")
 unfolding digits
 always_after_a_failure = refl
 
+-- and an Error
 pub always_after_an_error : printed (once_more Always) (Started ∷ ended 0 errored ∷ [])
     ≡ a_second_one (codes "    Error Pod r(0)")
 unfolding digits
 always_after_an_error = refl
 
+-- OnTransientError tries an Error again that is marked transient
 pub on_transient_error_after_a_transient_one : printed (once_more OnTransientError) (Started ∷ ended 0 transient ∷ [])
     ≡ a_second_one (codes "    Error Pod r(0)")
 unfolding digits
 on_transient_error_after_a_transient_one = refl
 
+-- and no other Error
 pub on_transient_error_after_another_one : printed (once_more OnTransientError) (Started ∷ ended 0 errored ∷ [])
     ≡ codes "workflow r Error" ∷ codes "  Error Retry r" ∷ codes "    Error Pod r(0)" ∷ []
 unfolding digits
@@ -134,6 +140,7 @@ pub out_of_time : printed for_10_seconds (Started ∷ attempt_failed 0 100 101 �
 unfolding digits
 out_of_time = refl
 
+-- so no timer is asked for then
 pub nothing_is_asked_for_then : wants for_10_seconds
     (Started ∷ attempt_failed 0 100 101 ∷ due 1 ∷ attempt_failed 1 106 110 ∷ []) ≡ []
 unfolding digits

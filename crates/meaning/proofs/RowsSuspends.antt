@@ -35,6 +35,7 @@ pub the_longest : wants (suspended (codes "u") (codes "8760h")) (Started ∷ Arm
 unfolding digits
 the_longest = refl
 
+-- a second more is no duration
 pub too_long : printed (suspended (codes "u") (codes "8760h1s")) (Started ∷ [])
     ≡ codes "workflow u Error" ∷ codes "  Error Suspend u -- bad duration" ∷ []
 unfolding digits
@@ -47,6 +48,7 @@ pub a_duration_with_a_tag : wants (suspended (codes "7") (codes "1m{{workflow.na
 unfolding digits
 a_duration_with_a_tag = refl
 
+-- a tag without a value is told by its name
 pub an_unresolved_duration : printed (suspended (codes "u") (codes "{{workflow.status}}")) (Started ∷ [])
     ≡ codes "workflow u Error" ∷ codes "  Error Suspend u -- unresolved workflow.status" ∷ []
 unfolding digits
@@ -57,6 +59,7 @@ pub armed_for_ever : wants (workflow (codes "u") (body.Suspend None)) (Started �
 unfolding digits
 armed_for_ever = refl
 
+-- it is Running all the while
 pub it_still_waits : printed (workflow (codes "u") (body.Suspend None)) (Started ∷ Armed (path (Main ∷ [])) 0 ∷ [])
     ≡ codes "workflow u Running" ∷ codes "  Running Suspend u" ∷ []
 unfolding digits
