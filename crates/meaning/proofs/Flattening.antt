@@ -5,7 +5,7 @@ use Rattle.std.specs.Prelude.{List, [], ◌∷◌, ◌++◌, map}
 use Rattle.tree_types.specs.declared.want.Want.{Want}
 use Rattle.meaning.specs.declared.lines.Line.{Line}
 use Rattle.meaning.specs.declared.lines.Line.TheVariants.{Stands, Asks, MayBegin}
-use Rattle.meaning.specs.Lines.{Parts, nothing, call, may_begin, asks, Made, row_of, calls_in, asked, then_parts, lines_over, lines_below, lines_in}
+use Rattle.meaning.specs.Lines.{Parts, nothing, call, may_begin, asks, Made, row_of, row_in, asked, then_parts, lines_over, lines_below, lines_in}
 use Rattle.meaning.specs.Calls.{then_hook}
 
 -- the lines of parts, and of more behind them
@@ -35,12 +35,12 @@ lines_tried parts ws = lines_then parts (asked ws) ∙ ap (λ (ks : List Line). 
 
 -- ---- the calls among parts
 
-pub calls_in_row : (ms : List Made) → calls_in (row_of ms) ≡ ms
-calls_in_row [] = refl
-calls_in_row (m ∷ ms) = ap (λ (ns : List Made). m ∷ ns) (calls_in_row ms)
+pub row_in_row : (ms : List Made) → row_in (row_of ms) ≡ ms
+row_in_row [] = refl
+row_in_row (m ∷ ms) = ap (λ (ns : List Made). m ∷ ns) (row_in_row ms)
 
-pub calls_in_then : (parts more : Parts) → calls_in (then_parts parts more) ≡ calls_in parts ++ calls_in more
-calls_in_then nothing more = refl
-calls_in_then (call own inner rest) more = ap (λ (ns : List Made). record { own = own; parts = inner } ∷ ns) (calls_in_then rest more)
-calls_in_then (may_begin p rest) more = calls_in_then rest more
-calls_in_then (asks w rest) more = calls_in_then rest more
+pub row_in_then : (parts more : Parts) → row_in (then_parts parts more) ≡ row_in parts ++ row_in more
+row_in_then nothing more = refl
+row_in_then (call own inner rest) more = ap (λ (ns : List Made). record { own = own; parts = inner } ∷ ns) (row_in_then rest more)
+row_in_then (may_begin p rest) more = row_in_then rest more
+row_in_then (asks w rest) more = row_in_then rest more

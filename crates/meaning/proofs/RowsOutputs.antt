@@ -1,7 +1,7 @@
 -- Worked examples of declared outputs: which a node has, and where it is Error for want of one.
 use Rattle.std.proofs.Common.{◌≡◌, refl}
 use Rattle.std.specs.Fmt.{digits}
-use Rattle.std.specs.Prelude.{ℕ, List, [], ◌∷◌, true, false, Option, Some, None, codes}
+use Rattle.std.specs.Prelude.{ℕ, List, [], ◌∷◌, true, false, Some, None, codes}
 use Rattle.tree_types.specs.declared.path.Sel.TheVariants.{Main, Group, Step}
 use Rattle.tree_types.specs.declared.phase.Phase.{Phase}
 use Rattle.tree_types.specs.declared.phase.Phase.TheVariants.{Succeeded, Failed, Error}
@@ -12,7 +12,6 @@ use Rattle.tree_types.specs.declared.outcome.Param.{Param}
 use Rattle.tree_types.specs.declared.outcome.Outputs.{Outputs}
 use Rattle.tree_types.specs.declared.fact.Fact.{Fact}
 use Rattle.tree_types.specs.declared.fact.Fact.TheVariants.{Started, Due}
-use Rattle.tag_text.specs.Parts.{parts_of}
 use Rattle.wf_manifest.specs.declared.templates.OutputDecl.{OutputDecl}
 use Rattle.wf_manifest.specs.declared.templates.Template.{Template}
 use Rattle.wf_manifest.specs.declared.templates.Body.{Body}
@@ -20,17 +19,11 @@ use Rattle.wf_manifest.specs.declared.templates.Body.TheVariants as body
 use Rattle.wf_manifest.specs.declared.manifest.Manifest.{Manifest}
 use Rattle.meaning.specs.Answers.{path}
 use Rattle.meaning.specs.Trees.{tree}
-use Rattle.meaning.proofs.Samples.{template, container, workflow_of, call, call_when, succeeded, failed, settled, printed}
-
-abbrev declared : List ℕ → Option (List ℕ) → OutputDecl
-declared name default = record { name = name; path = None; from = None; default = default }
+use Rattle.meaning.proofs.Samples.{template, container, workflow_of, call, call_when, declared, declared_from, param, succeeded, failed, settled, printed}
 
 -- p has a default, and q has none
 abbrev p_and_q : List OutputDecl
 p_and_q = declared (codes "p") (Some (codes "1")) ∷ declared (codes "q") None ∷ []
-
-abbrev param : List ℕ → List ℕ → Param
-param name value = record { name = name; value = value }
 
 abbrev with_p_and_q : List ℕ → Body → Template
 with_p_and_q name b = record (template name b) { outputs = p_and_q }
@@ -72,7 +65,7 @@ pub all_are_there : roots (of_a_root body.Pod)
 unfolding digits
 all_are_there = refl
 
--- a pod that Failed has its outcome's outputs of_a_root
+-- a pod that Failed has its outcome's outputs alone, without the default of p
 pub a_failed_pod : roots (of_a_root body.Pod) (Started ∷ settled [] (record failed { params = of_the_outcome }) ∷ [])
     ≡ (Failed, note.None, record { result = None; params = of_the_outcome }) ∷ []
 unfolding digits
@@ -90,9 +83,9 @@ a_suspended_node = refl
 -- x is the result of the step a, y that of the step a where it has one, and z that of no step
 abbrev x_y_and_z : List OutputDecl
 x_y_and_z =
-    record (declared (codes "x") None) { from = Some (parts_of (codes "{{steps.a.outputs.result}}")) }
-    ∷ record (declared (codes "y") (Some (codes "2"))) { from = Some (parts_of (codes "{{steps.a.outputs.parameters.y}}")) }
-    ∷ record (declared (codes "z") None) { from = Some (parts_of (codes "{{steps.a.outputs.parameters.z}}")) } ∷ []
+    declared_from (codes "x") (codes "{{steps.a.outputs.result}}")
+    ∷ record (declared_from (codes "y") (codes "{{steps.a.outputs.parameters.y}}")) { default = Some (codes "2") }
+    ∷ declared_from (codes "z") (codes "{{steps.a.outputs.parameters.z}}") ∷ []
 
 abbrev with_a_step : List OutputDecl → Manifest
 with_a_step ds =

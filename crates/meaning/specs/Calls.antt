@@ -1,6 +1,6 @@
 -- What a call makes: its condition, its loop, its arguments, the template's node, its exit hook.
-use Rattle.std.specs.Prelude.{ℕ, zero, suc, List, [], ◌∷◌, ◌++◌, Bool, true, false, not, ◌&&◌, Option, Some, None, Ok, Err, codes, map, bytes_eq}
-use Rattle.std.specs.List.{list_any, list_all, find}
+use Rattle.std.specs.Prelude.{ℕ, zero, suc, List, [], ◌∷◌, ◌++◌, Bool, true, false, not, ◌&&◌, Option, Some, None, Ok, Err, map}
+use Rattle.std.specs.List.{list_any, list_all}
 use Rattle.serde_json.specs.Data.{Data, null, string, array, Items, no_items, item}
 use Rattle.serde_json.specs.Written.{compact_text}
 use Rattle.tree_types.specs.declared.path.Sel.TheVariants.{Exit, Item}
@@ -11,6 +11,7 @@ use Rattle.tree_types.specs.declared.node.Kind.{Kind}
 use Rattle.tree_types.specs.declared.node.Kind.TheVariants as kind
 use Rattle.tree_types.specs.declared.node.Note.TheVariants as note
 use Rattle.tree_types.specs.declared.node.Node.{Node}
+use Rattle.tree_types.specs.declared.outcome.Param.{Param}
 use Rattle.tree_types.specs.declared.outcome.Outputs.{Outputs}
 use Rattle.tree_types.specs.declared.want.Want.TheVariants as want
 use Rattle.tree_types.specs.Phases.{fulfilled, is_skipped, is_omitted, is_succeeded, is_failed, worst_of}
@@ -32,13 +33,13 @@ use Rattle.wf_manifest.specs.declared.templates.Body.TheVariants as body
 use Rattle.wf_manifest.specs.declared.templates.Template.{Template}
 use Rattle.wf_manifest.specs.declared.manifest.Manifest.{Manifest}
 pub use Rattle.wf_manifest.specs.Valid.{template_named}
-use Rattle.scopes.specs.Substitution.{Found, ◌>>=◌, Scope, value_in, said, said_option, has_item_tag}
+use Rattle.scopes.specs.Substitution.{Found, ◌>>=◌, Scope, value_in, said, said_option, input_tags, has_item_tag}
 use Rattle.fanout.specs.Items.{items}
 use Rattle.fanout.specs.ItemTexts.{item_tags, name_text}
 use Rattle.meaning.specs.declared.lines.Place.{Place}
 use Rattle.meaning.specs.Answers.{path, MemoAnswer, Answers}
 use Rattle.meaning.specs.Lines.{numbered, below, Made, nothing, row_of, then_parts, no_outputs, node, made, alone, all_finished, tags_of}
-use Rattle.meaning.specs.Outputs.{param}
+use Rattle.meaning.specs.Outputs.{param, with_value}
 use Rattle.meaning.specs.Pods.{pod_made, retry_made}
 use Rattle.meaning.specs.Suspends.{suspend_made}
 use Rattle.meaning.specs.Steps.{Caller, steps_made}
@@ -90,24 +91,20 @@ input_by globals i None = value_or_default globals i.value i.default
 abbrev pub input_value : Scope → Scope → Input → Found (Option (List ℕ))
 input_value globals given i = input_by globals i (value_in given i.name)
 
--- a valid manifest gives each input a value
-abbrev pub with_input : List ℕ → Option (List ℕ) → Scope → Scope
-with_input n None rest = rest
-with_input n (Some v) rest = (codes "inputs.parameters." ++ n, v) ∷ rest
-
-abbrev pub inputs_said : Scope → Scope → List Input → Found Scope
+-- the inputs with their values; a valid manifest gives each input one
+abbrev pub inputs_said : Scope → Scope → List Input → Found (List Param)
 inputs_said globals given [] = Ok []
 inputs_said globals given (i ∷ rest) = do
   v ← input_value globals given i
-  tags ← inputs_said globals given rest
-  Ok (with_input i.name v tags)
+  ps ← inputs_said globals given rest
+  Ok (with_value i.name v ps)
 
 -- the scope of a template's own texts: its inputs and the workflow's tags
 abbrev pub template_scope : Scope → Scope → List Argument → List Input → Found Scope
 template_scope globals scope given inputs = do
   vs ← arguments_said scope given
-  tags ← inputs_said globals vs inputs
-  Ok (tags ++ globals)
+  ps ← inputs_said globals vs inputs
+  Ok (input_tags ps ++ globals)
 
 -- ---- conditions (Argo, "Conditionals"; the language of `when` is this project's own)
 
@@ -339,7 +336,7 @@ module _ (m : Manifest) (A : Answers) (globals : Scope) (called : Caller) where
       (each_made prefix place scope c c.each)
 
 module _ (m : Manifest) (A : Answers) (globals : Scope) where
-  -- a call below which so many further depths may be called; the next one is too deep
+  -- a call with so many depths left, its own among them: with none left it is too deep
   abbrev pub calls : ℕ → Caller
   calls zero = λ prefix place scope c. alone place (kind_named m c.template) Error note.TooDeep
-  calls (suc n) = call_made m A globals (calls n)
+  calls (suc left) = call_made m A globals (calls left)

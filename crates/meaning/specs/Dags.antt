@@ -4,6 +4,7 @@
 -- are this project's own.
 use Rattle.std.specs.Prelude.{ℕ, zero, suc, List, [], ◌∷◌, ◌++◌, length, Bool, true, false, not, ◌&&◌, ◌||◌, Option, Some, None, if◌then◌else◌, codes, map, flat_map, filter, bytes_eq}
 use Rattle.std.specs.List.{list_any, list_all, find}
+use Rattle.base_types.specs.Names.{is_among}
 use Rattle.tree_types.specs.declared.path.Sel.TheVariants.{Task as task_sel}
 use Rattle.tree_types.specs.declared.phase.Phase.{Phase}
 use Rattle.tree_types.specs.declared.phase.Phase.TheVariants.{Running, Succeeded, Omitted}
@@ -26,9 +27,6 @@ use Rattle.meaning.specs.Steps.{Caller, covers_failed, covers_error, covered}
 
 abbrev pub Names : Type 0
 Names = List (List ℕ)
-
-abbrev pub is_among : Names → List ℕ → Bool
-is_among ns n = list_any (λ o. bytes_eq o n) ns
 
 abbrev pub task_named : List Task → List ℕ → Option Task
 task_named ts n = find (λ t. bytes_eq t.call.name n) ts
@@ -183,14 +181,14 @@ worst_branch at ns = worst_of (map (λ n. branch_of (at n)) ns)
 
 module _ (A : Answers) (called : Caller) (place : Place) (scope : Scope) (d : Dag) where
   -- a task that begins, in the scope of its ancestors; its branch phase is the phase as its `continueOn` covers it
-  abbrev pub begins : Scope → ℕ → Task → Standing
-  begins seen i t =
+  abbrev pub begun_task : Scope → ℕ → Task → Standing
+  begun_task seen i t =
       let m = called (codes "tasks.") (task_place place i t) (seen ++ scope) t.call in
       exists m (covered t.call.continue_on m.own.node.phase) seen
 
   abbrev pub free_by : Scope → ℕ → Task → Bool → Standing
   free_by seen i t false = ready
-  free_by seen i t true = begins seen i t
+  free_by seen i t true = begun_task seen i t
 
   -- nothing holds it back: it exists, with `failFast` exactly where its beginning is recorded
   abbrev pub free : Scope → ℕ → Task → Standing

@@ -80,11 +80,11 @@ row_of [] = nothing
 row_of (m ∷ ms) = call m.own m.parts (row_of ms)
 
 -- the calls among them, in their order
-abbrev pub calls_in : Parts → List Made
-calls_in nothing = []
-calls_in (call own inner rest) = record { own = own; parts = inner } ∷ calls_in rest
-calls_in (may_begin p rest) = calls_in rest
-calls_in (asks w rest) = calls_in rest
+abbrev pub row_in : Parts → List Made
+row_in nothing = []
+row_in (call own inner rest) = record { own = own; parts = inner } ∷ row_in rest
+row_in (may_begin p rest) = row_in rest
+row_in (asks w rest) = row_in rest
 
 abbrev pub asked : List Want → Parts
 asked [] = nothing

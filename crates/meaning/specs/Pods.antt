@@ -1,7 +1,8 @@
 -- Pods, and the attempts of a pod with a retry
 -- (Argo, "Retrying failed or errored steps"; field reference, `RetryStrategy`).
--- Due ticks, 100 attempts without a limit, and what is transient are this project's own.
+-- Due ticks, the most attempts without a limit, and what is transient are this project's own.
 use Rattle.std.specs.Prelude.{ℕ, zero, suc, ◌-◌, List, [], ◌∷◌, Bool, true, false, not, ◌&&◌, ◌||◌, nat_le, Option, Some, None, length}
+use Rattle.base_types.specs.Limits.{most_attempts}
 use Rattle.tree_types.specs.declared.path.Sel.TheVariants.{Attempt}
 use Rattle.tree_types.specs.declared.phase.Phase.{Phase}
 use Rattle.tree_types.specs.declared.phase.Phase.TheVariants.{Running}
@@ -69,9 +70,9 @@ abbrev pub time_left : Option Backoff → ℕ → ℕ → Bool
 time_left None begin finish = true
 time_left (Some b) begin finish = in_time b.max_duration begin finish
 
--- how many attempts may follow the first
+-- how many attempts may follow the first: without a limit all but one of the most
 abbrev pub further_by : Option ℕ → ℕ
-further_by None = 99
+further_by None = most_attempts - 1
 further_by (Some limit) = limit
 
 abbrev pub further : Retry → ℕ
@@ -96,8 +97,8 @@ abbrev pub ends_with : Made → Bool → Attempts
 ends_with m over = record { all = m ∷ []; last = m; next = None; over = over }
 
 -- the last attempt, which a further one follows at a tick
-abbrev pub waits_for : Made → ℕ → Attempts
-waits_for m tick = record { all = m ∷ []; last = m; next = Some tick; over = false }
+abbrev pub followed_at : Made → ℕ → Attempts
+followed_at m tick = record { all = m ∷ []; last = m; next = Some tick; over = false }
 
 -- an attempt and those that follow it
 abbrev pub before_attempts : Made → Attempts → Attempts
@@ -144,7 +145,7 @@ module _ (A : Answers) (place : Place) (declared : List OutputDecl) (r : Retry) 
   -- attempt k, which a further one follows: it waits for its tick, or starts
   abbrev pub started_by : ℕ → Note × Outcome → ℕ → (ℕ → Attempts) → Bool → Attempts
   started_by k o begin rest false =
-      waits_for (ended_attempt place declared k o) (due_tick r.backoff o.1.finish (suc k))
+      followed_at (ended_attempt place declared k o) (due_tick r.backoff o.1.finish (suc k))
   started_by k o begin rest true = before_attempts (ended_attempt place declared k o) (rest begin)
 
   -- attempt k, and whether a further one follows it

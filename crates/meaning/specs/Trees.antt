@@ -1,10 +1,11 @@
 -- The tree of a manifest and recorded facts, what it asks for, and which tasks may begin.
-use Rattle.std.specs.Prelude.{◌≡◌, ℕ, List, [], ◌∷◌, ◌++◌, ◌-◌, map, Bool, true, false, Option, Some, None, Ok, Err, if◌then◌else◌, codes, filter_map}
+use Rattle.std.specs.Prelude.{◌≡◌, ℕ, zero, suc, List, [], ◌∷◌, ◌++◌, map, Bool, true, false, Option, Some, None, Ok, Err, if◌then◌else◌, codes, filter_map}
+pub use Rattle.base_types.specs.Limits.{most_depth, most_nodes}
 use Rattle.tree_types.specs.declared.path.Sel.TheVariants.{Main, Exit}
 use Rattle.tree_types.specs.declared.path.Path.{Path}
 use Rattle.tree_types.specs.declared.path.LockId.{LockId}
 use Rattle.tree_types.specs.declared.phase.Phase.{Phase}
-use Rattle.tree_types.specs.declared.phase.Phase.TheVariants.{Pending, Running}
+use Rattle.tree_types.specs.declared.phase.Phase.TheVariants.{Pending, Running, Error}
 use Rattle.tree_types.specs.declared.node.Note.{Note}
 use Rattle.tree_types.specs.declared.node.Note.TheVariants as note
 use Rattle.tree_types.specs.declared.node.Node.{Node}
@@ -22,12 +23,8 @@ use Rattle.meaning.specs.declared.lines.Place.{Place}
 use Rattle.meaning.specs.declared.lines.Line.{Line}
 use Rattle.meaning.specs.declared.lines.Line.TheVariants.{Stands, Asks, MayBegin}
 use Rattle.meaning.specs.Answers.{path, Facts, Answers, answers}
-use Rattle.meaning.specs.Lines.{Made, lines_in, no_outputs, node, status_tag}
+use Rattle.meaning.specs.Lines.{Made, lines_in, no_outputs, node, alone, status_tag}
 use Rattle.meaning.specs.Calls.{kind_named, call_of_template, calls}
-
--- the most nodes of a stored tree
-abbrev pub most_nodes : ℕ
-most_nodes = 10000
 
 -- ---- the tags of a workflow (Argo, "Workflow variables", Global)
 
@@ -50,15 +47,15 @@ root m = record { sels = Main ∷ []; name = m.name; depth = 1 }
 abbrev pub exit_root : Manifest → Place
 exit_root m = record { sels = Exit ∷ []; name = m.name ++ suffix seg.Exit; depth = 1 }
 
--- the greatest depth of a call (own)
-abbrev pub most_depth : ℕ
-most_depth = 32
+-- a call of a template with the workflow's arguments, with so many depths left, its own among them
+abbrev pub top_call_within : ℕ → Manifest → Answers → Scope → Place → List ℕ → Made
+top_call_within zero m A globals place template = alone place (kind_named m template) Error note.TooDeep
+top_call_within (suc left) m A globals place template =
+    call_of_template m A globals (calls m A globals left) place globals template m.arguments (λ b. b)
 
--- both are called with the workflow's arguments at depth 1
+-- so the entrypoint and the exit handler are called, both at depth 1 (the limit is own)
 abbrev pub top_call : Manifest → Answers → Scope → Place → List ℕ → Made
-top_call m A globals place template =
-    let called = calls m A globals (most_depth - 1) in
-    call_of_template m A globals called place globals template m.arguments (λ b. b)
+top_call m A globals place template = top_call_within most_depth m A globals place template
 
 abbrev pub main_made : Manifest → Answers → Made
 main_made m A = top_call m A (globals_of m) (root m) m.entrypoint
