@@ -18,7 +18,7 @@ use Rattle.meaning.specs.Answers.{Facts, Answers, answers}
 use Rattle.meaning.specs.Trees.{exit_root, main_made, root, status_tags, exit_made, exit_if, exit_of, exit_lines, running_lines, lines_locked, lines_started, lines_by, lines, nodes_in, tree, begin_at, workflow_phase, ended_phase, running_phase, granted_phase, lock_granted, started_phase}
 use Rattle.meaning.specs.Lines.{Made, lines_in}
 use Rattle.growth.specs.Growth.{Among, SaysMore, IsFair, IsOver}
-use Rattle.growth.specs.Writes.{Steps, stay, asks, begins_first}
+use Rattle.growth.specs.Writes.{OneByOne, stay, asks, begins_first}
 use Rattle.growth.proofs.Lines.{one_of, Any, any_left, any_right, IsNode}
 use Rattle.growth.proofs.Keeping.{not_both}
 use Rattle.growth.proofs.Paths.{paths, all_fit, one_path}
@@ -99,7 +99,7 @@ module _ (m : Manifest) where
   all_next : (J : Facts) (f : Fact) → SaysMore (answers J) (answers (with_fact J f)) → IsFair m (answers J) (answers (with_fact J f)) → AllNodesOver m J → AllNodesOver m (with_fact J f)
   all_next J f g h a = subst (λ (ls : List Line). IsOverAt [] (nodes_in ls)) (sym (stays m (answers J) (answers (with_fact J f)) g h (over_all m (answers J) a))) a
 
-  all_on : (J K : Facts) → Steps m J K → AllNodesOver m J → AllNodesOver m K
+  all_on : (J K : Facts) → OneByOne m J K → AllNodesOver m J → AllNodesOver m K
   all_on J K stay a = a
   all_on J K (asks f h s) a = all_on (with_fact J f) K s (all_next J f (asked_says_more m J f h) (λ p n. absurd (asked_begins m J f h p n)) a)
   all_on J K (begins_first p ps e s) a = all_on (begin_at J p) K s (all_next J (Begun p) (one_says_more J (Begun p) (λ q x c. refl)) (begun_is_first m J p ps e) a)

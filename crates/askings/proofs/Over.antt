@@ -49,7 +49,7 @@ use Rattle.meaning.specs.Dags.{Standing, waiting, ready, exists, Look, look, Sta
 use Rattle.meaning.specs.Calls.{template_named, kind_named, kind_of, template_scope, stopped_by, stopped_if, stopped_before_loop, stopped_at_item, unless_stopped, hook_runs, hook_place, loop_node, loop_made, item_place, body_by, body_made, saving_if, remembered, keyed, memo_made, locked, template_by, template_made, entry, call_by, call_of_template, hook_made, hooked_if, hooked, one_made, item_made, items_made, declared_by, looped, each_made, call_made, calls, truth_said}
 use Rattle.meaning.specs.Trees.{root, exit_root, globals_of, status_tags, top_call, main_made, exit_made, exit_if, exit_of, exit_lines, running_lines, lines_locked, lines_started, lines_by, lines, nodes_in, ended_phase, running_phase, granted_phase, lock_granted, started_phase, workflow_phase}
 use Rattle.growth.specs.Growth.{Among, IsOver}
-use Rattle.growth.proofs.Rows.{both_true}
+use Rattle.growth.proofs.Numbered.{both_true}
 use Rattle.growth.proofs.Lines.{Every, every_append}
 use Rattle.growth.proofs.Keeping.{not_both}
 use Rattle.growth.proofs.SoundBodies.{standing_lines, task_laid}

@@ -40,7 +40,7 @@ use Rattle.meaning.specs.Suspends.{seconds_of, suspend_wants, suspend_by, suspen
 use Rattle.meaning.specs.Steps.{Caller, Member, member_place, member, members, makings, group_phase, group_made, Groups, group_place, groups_by, members_at, groups_from, steps_phase, steps_made}
 use Rattle.meaning.specs.Dags.{Standing, waiting, ready, exists, Look, look, task_place, tags_before, is_over, awaited, is_meant, free_by, free, decided_by, waits_by, meant, meant_by, with_standing, rounds, standings, is_doomed, dag_phase, dag_tags, dag_made, tasks_below}
 use Rattle.meaning.specs.Guards.{of_template, of_group, nowhere, inside, inside_body, group_spot, call_spot, call_of_task}
-use Rattle.growth.proofs.Rows.{All, all_map, all_from, all_numbered, both_true, Laid}
+use Rattle.growth.proofs.Numbered.{All, all_map, all_from, all_numbered, both_true, Laid}
 use Rattle.growth.proofs.Lines.{Every, every_append}
 use Rattle.growth.proofs.Keeping.{not_both, At, node_at, ending_ends}
 use Rattle.growth.proofs.SoundBodies.{members_laid, tasks_laid, standing_lines, task_lines, dag_lines}

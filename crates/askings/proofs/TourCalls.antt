@@ -38,7 +38,7 @@ use Rattle.meaning.specs.Calls.{template_named, kind_of, kind_named, template_sc
 use Rattle.meaning.specs.Guards.{of_template, of_loop, spot_named, template_spot, called_spot, handler_spot}
 use Rattle.meaning.specs.Trees.{pending_root, globals_of, root, exit_root, top_call, main_made, status_tags, exit_if, exit_of, exit_lines, running_lines, lines_locked, lines_started, lines_by, lines}
 use Rattle.growth.specs.Growth.{New}
-use Rattle.growth.proofs.Rows.{All, all_numbered, both_true}
+use Rattle.growth.proofs.Numbered.{All, all_numbered, both_true}
 use Rattle.growth.proofs.Lines.{Every, every_map, IsNode, Fine, Under, Inside, Proper, Fair}
 use Rattle.growth.proofs.Keeping.{not_both, Grew}
 use Rattle.growth.proofs.Paths.{paths, all_fit}

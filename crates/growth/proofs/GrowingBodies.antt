@@ -29,7 +29,7 @@ use Rattle.meaning.specs.Pods.{outputs_of, running_pod, pod_by, pod_made, Attemp
 use Rattle.meaning.specs.Suspends.{seconds_of, timer_wants, suspend_wants, suspend_by, suspended, suspend_made}
 use Rattle.meaning.specs.Steps.{Caller, Member, member_place, member, makings, group_phase, group_made, group_tags, Groups, before_groups, group_place, groups_by, members_at, groups_from, steps_phase, steps_by, steps_made}
 use Rattle.growth.specs.Growth.{SaysMore, New}
-use Rattle.growth.proofs.Rows.{Pairs, pairs_from, pairs_same}
+use Rattle.growth.proofs.Numbered.{Pairs, pairs_from, pairs_same}
 use Rattle.growth.proofs.Lines.{Any, IsWant, any_right, from_under, Begins, Holds, past_wants, one_of, Proper, Under, Inside, AtChild, From, Fair, fair_child, fair_rest, fair_below, fair_map, from_inside, rows_fair, under_at_child}
 use Rattle.growth.proofs.Keeping.{not_both, AllKept, Later, Grew, Begun, all_left, all_right, all_append, all_beside, all_same, same_top, unchanged, begun_beside, begun_below, begun_nothing, rows_kept, rows_begun, At, node_at, ending_ends, same_place, open_follows, made_later}
 use Rattle.growth.proofs.Paths.{paths}

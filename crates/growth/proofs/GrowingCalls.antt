@@ -34,7 +34,7 @@ use Rattle.meaning.specs.Lines.{Made, lines_in, no_outputs, node, lines_of, all_
 use Rattle.meaning.specs.Steps.{Caller}
 use Rattle.meaning.specs.Calls.{template_named, kind_of, kind_named, template_scope, hook_runs, hook_place, then_hook, loop_node, loop_made, item_place, stopped_before_loop, stopped_at_item, unless_stopped, body_by, body_made, saving_if, saving, remembered, keyed, memo_made, locked, template_by, template_made, entry, call_by, call_of_template, hook_made, hooked_if, hooked, one_made, item_made, items_made, declared_by, looped, each_made, call_made, calls}
 use Rattle.growth.specs.Growth.{SaysMore, New}
-use Rattle.growth.proofs.Rows.{Pairs, pairs_from, pairs_same}
+use Rattle.growth.proofs.Numbered.{Pairs, pairs_from, pairs_same}
 use Rattle.growth.proofs.Lines.{behind_first, Any, IsNode, IsWant, IsAt, Begins, Proper, Nowhere, Under, Inside, AtChild, From, Fair, fair_left, fair_right, fair_below, fair_map, rows_fair, inside_under, exit_apart, child_under, from_under}
 use Rattle.growth.proofs.Keeping.{all_right, same_place, not_both, SameTop, Later, Begun, Grew, kept_in, all_left, all_beside, same_top, unchanged, begun_beside, begun_left, begun_below, still, rows_kept, rows_begun, At, node_at, AllKept}
 use Rattle.growth.proofs.Paths.{paths, all_fit}

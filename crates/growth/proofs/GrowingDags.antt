@@ -23,7 +23,7 @@ use Rattle.meaning.specs.Outputs.{computed, ended_node}
 use Rattle.meaning.specs.Steps.{Caller, covered}
 use Rattle.meaning.specs.Dags.{awaited, is_meant, Standing, waiting, ready, exists, is_over, is_ready, is_at_rest, Look, Standings, look, task_place, tags_before, free_by, free, decided_by, waits_by, meant, meant_by, with_standing, rounds, standings, is_doomed, may_go_on, dag_over, dag_phase, dag_tags, dag_by, dag_made, tasks_below}
 use Rattle.growth.specs.Growth.{SaysMore, New}
-use Rattle.growth.proofs.Rows.{All, Pairs, both_true, all_map, pairs_from}
+use Rattle.growth.proofs.Numbered.{All, Pairs, both_true, all_map, pairs_from}
 use Rattle.growth.proofs.Lines.{Has, Proper, proper_map, proper_holds, child_not_deep, Under, Inside, AtChild, Deep, From, under_deep, from_inside, rows_in, rows_fair, Fair, fair_below, fair_map}
 use Rattle.growth.proofs.Keeping.{not_both, AllKept, Later, Grew, Begun, begun_below, begun_nothing, rows_kept, rows_begun, unchanged, ending_ends, same_place, made_later}
 use Rattle.growth.proofs.Paths.{paths}

@@ -18,7 +18,7 @@ use Rattle.meaning.specs.Answers.{path, Sels, Answers}
 use Rattle.meaning.specs.Lines.{Made, Parts, lines_over, lines_below, lines_in, node, made}
 use Rattle.meaning.specs.Outputs.{Ending, succeeded_node, ended_node}
 use Rattle.growth.specs.Growth.{Follows, New, KeepsTicks, Unanswered}
-use Rattle.growth.proofs.Rows.{Pairs, Laid}
+use Rattle.growth.proofs.Numbered.{Pairs, Laid}
 use Rattle.growth.proofs.Lines.{Every, Any, one_of, every_append, every_map, any_append, any_left, any_right, past_wants, IsNode, IsWant, IsAt, Begins, Has, Holds, Proper, Nowhere, proper_holds}
 
 pub not_both : {X : Type 0} (b : Bool) → b ≡ true → b ≡ false → X

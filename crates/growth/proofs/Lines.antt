@@ -14,7 +14,7 @@ use Rattle.meaning.specs.declared.lines.Place.{Place}
 use Rattle.meaning.specs.declared.lines.Line.{Line}
 use Rattle.meaning.specs.declared.lines.Line.TheVariants.{Stands, Asks, MayBegin}
 use Rattle.meaning.specs.Answers.{Sels, Answers}
-use Rattle.growth.proofs.Rows.{All, Laid}
+use Rattle.growth.proofs.Numbered.{All, Laid}
 
 -- ---- a line right behind the first
 

@@ -40,7 +40,7 @@ use Rattle.meaning.specs.Suspends.{seconds_of, timer_wants, suspend_wants, suspe
 use Rattle.meaning.specs.Steps.{Caller, Member, member_place, member, members, makings, group_phase, group_made, Groups, group_place, groups_by, members_at, groups_from, steps_phase, steps_made}
 use Rattle.meaning.specs.Dags.{Standing, waiting, ready, exists, Look, Standings, look, task_place, tags_before, awaited, is_meant, free_by, free, decided_by, waits_by, meant, meant_by, standing, with_standing, rounds, standings, is_doomed, dag_phase, dag_tags, dag_made, task_then, tasks_below}
 use Rattle.meaning.proofs.Flattening.{lines_tried}
-use Rattle.growth.proofs.Rows.{all_map, All, all_numbered, Laid}
+use Rattle.growth.proofs.Numbered.{all_map, All, all_numbered, Laid}
 use Rattle.growth.proofs.Lines.{Has, AllOpen, Unresumed, Proper, proper_append, proper_map, proper_wants, Nowhere, Under, Inside, AtChild, From, inside_under, under_at_child, Ways, from_inside, child_then, rows_proper}
 use Rattle.growth.proofs.Keeping.{At, node_at, ending_ends}
 use Rattle.growth.proofs.Geometry.{Descent, down, Geometry, Placed, placed_map, placed_none, placed_wants, placed_before, Inner, Top, outer, placed_made, Kin, Kids, kids_inner, placed_then, placed_last, rows_placed, kin_numbers}

@@ -39,7 +39,7 @@ use Rattle.meaning.specs.Lines.{Made, lines_in, numbered, no_outputs, node, alon
 use Rattle.meaning.specs.Steps.{Caller}
 use Rattle.meaning.specs.Calls.{template_named, kind_of, kind_named, template_scope, truth_said, stopped_by, stopped_if, stopped_before_loop, stopped_at_item, unless_stopped, hook_runs, hook_place, loop_node, loop_made, item_place, body_by, body_made, saving_if, remembered, keyed, memo_made, locked, template_by, template_made, entry, call_by, call_of_template, hook_made, hooked_if, hooked, one_made, item_made, items_made, declared_by, looped, each_made, call_made, calls, then_hook}
 use Rattle.meaning.specs.Trees.{globals_of, root, exit_root, top_call, main_made, status_tags, exit_made, exit_if, exit_of, exit_lines, running_lines, lines_locked, lines_started, lines_by, lines}
-use Rattle.growth.proofs.Rows.{All, all_numbered}
+use Rattle.growth.proofs.Numbered.{All, all_numbered}
 use Rattle.growth.proofs.Lines.{any_left, IsAt, Unresumed, Proper, proper_append, proper_map, Nowhere, Anywhere, Under, Inside, AtChild, From, child_under, Ways, from_under, rows_proper, Has}
 use Rattle.growth.proofs.Keeping.{At, node_at}
 use Rattle.growth.proofs.Geometry.{Descent, Geometry, Apart, Placed, placed_map, placed_append, placed_none, Inner, Top, outer, top_below, hook_below, top_apart_hook, placed_made, Kin, Kids, kids_inner, rows_placed, kin_numbers}
