@@ -2,8 +2,8 @@
 use Rattle.std.specs.Prelude.{◌≡◌, ℕ, ◌==◌, IsTrue}
 use Rattle.std.proofs.Common.{ap, inl, inr}
 use Rattle.std.proofs.lemmas.Bool.{or_cases, eqb-true, cond-true, cond_both}
-use Rattle.depends_expr.specs.Grammar.{is_space, is_name_byte}
-use Rattle.depends_expr.specs.Reading.{Kind, letter, blank, bang, opening, closing, ampersand, bar, dot, other, kind, sign_kind}
+use Rattle.base_types.specs.Bytes.{is_space, is_name_byte}
+use Rattle.depends_expr.specs.Inside.Reading.{Kind, letter, blank, bang, opening, closing, ampersand, bar, dot, other, kind, sign_kind}
 
 pub space_kind : (b : ℕ) → IsTrue (is_space b) → kind b ≡ blank
 space_kind b h = elim (or_cases (b == 32) (b == 9) h) [ inl e ↦ ap kind (eqb-true b 32 e) | inr e ↦ ap kind (eqb-true b 9 e) ]

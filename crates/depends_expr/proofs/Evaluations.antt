@@ -8,9 +8,9 @@ use Rattle.depends_expr.specs.declared.steps.Step.{Step}
 use Rattle.depends_expr.specs.declared.steps.Step.TheVariants.{Bare, Has, Not, And, Or}
 use Rattle.depends_expr.specs.Expression.{Expression, bare, has, negation, both, either}
 use Rattle.depends_expr.specs.Truth.{holds, bare_holds, truth}
-use Rattle.depends_expr.specs.Postfix.{word_of, postfix, build, built}
-use Rattle.depends_expr.specs.View.{found, with_name, named_expression, is_position_below, peak, IsWhole}
-use Rattle.depends_expr.specs.Values.{result_at, value_of, values, top_value, has_room, values_after, fits}
+use Rattle.depends_expr.specs.Inside.Postfix.{word_of, postfix, build, built}
+use Rattle.depends_expr.specs.Inside.View.{found, with_name, named_expression, is_position_below, peak, IsWhole}
+use Rattle.depends_expr.specs.Inside.Values.{result_at, value_of, values, top_value, has_room, values_after, fits}
 use Rattle.depends_expr.proofs.Postfixes.{built_postfix}
 
 result_of_name : (of : List ℕ → TaskResult) (names : List (List ℕ)) (i : ℕ) → i < length names → result_at (map of names) i ≡ of (found (slice_get names i))

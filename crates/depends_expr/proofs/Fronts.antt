@@ -1,13 +1,13 @@
 -- Where the longest front ends that some text of the grammar begins with.
-use Rattle.std.specs.Prelude.{◌≡◌, ℕ, zero, suc, ◌≤◌, List, [], ◌∷◌, ◌++◌, length, take, ◌==◌, IsTrue, Option, Some, None, refl}
+use Rattle.std.specs.Prelude.{◌≡◌, ◌↔◌, ℕ, zero, suc, ◌≤◌, List, [], ◌∷◌, ◌++◌, length, take, ◌==◌, IsTrue, Option, Some, None, refl}
 use Rattle.std.proofs.Common.{ap, sym, subst, ◌∙◌, arith, append_assoc, inl, inr}
 use Rattle.std.specs.List.{list_any}
 use Rattle.std.proofs.lemmas.Bool.{false≢true, or_cases, cond_both, eqb-true}
 use Rattle.depends_expr.specs.Expression.{Word, Expression, bare, has}
 use Rattle.depends_expr.specs.Grammar.{Text, spelling, no_space, result_of, IsDepends, IsStart, StartEndsAt, IsBadAt}
-use Rattle.depends_expr.specs.Reading.{State, start, wants, in_name, in_result, done, half_and, half_or, Around, Level, operand, joined, plus, step, read, then_read, place, then_place, words, behind, is_found}
+use Rattle.depends_expr.specs.Inside.Reading.{State, start, wants, in_name, in_result, done, half_and, half_or, Around, Level, operand, joined, plus, step, read, then_read, place, then_place, words, behind, is_found}
 use Rattle.depends_expr.proofs.Taken.{taken}
-use Rattle.depends_expr.proofs.Held.{Holds, At, step_holds, read_holds, start_holds, operand_holds, none_some, some_same}
+use Rattle.depends_expr.proofs.Held.{meant, Holds, At, step_holds, read_holds, start_holds, operand_holds, none_some, some_same}
 
 -- ---- each state can be completed
 
@@ -143,3 +143,7 @@ bad text p = record { refused = λ e h. none_some (sym p ∙ taken text e h); fa
 -- a text says one thing
 pub one_meaning : (text : Text) (d e : Expression) → IsDepends text d → IsDepends text e → d ≡ e
 one_meaning text d e g h = some_same (sym (taken text d g) ∙ taken text e h)
+
+-- what reading finds is what the grammar says
+pub says : (text : Text) (e : Expression) → (read start text ≡ Some e) ↔ IsDepends text e
+says text e = (meant text e, taken text e)

@@ -5,8 +5,10 @@ use Rattle.std.specs.List.{list_all}
 use Rattle.std.proofs.lemmas.Bool.{and_from, and_parts, ltb-true, lt-ltb, le-leb, cond_both, eqb-true}
 use Rattle.std.proofs.lemmas.Slice.Eq.{bytes_eq-Decides}
 use Rattle.depends_expr.specs.Expression.{Word, Expression, bare, has, negation}
-use Rattle.depends_expr.specs.Grammar.{Text, is_space, is_name_byte, is_name, spelling, Spaces, no_space, space, Or, one_and, more_or, And, one_not, more_and, Not, not_sign, group, alone, result_of, IsDepends}
-use Rattle.depends_expr.specs.Reading.{Kind, kind, letter, blank, bang, opening, closing, ampersand, bar, dot, other, State, start, wants, in_name, in_result, done, half_and, half_or, Around, Level, on_wants, on_done, on_name, on_result, on_part, longer_name, add_not, open_level, close_level, operand, negate, times, plus, whole, final, step, read, then_read, words, spelled, begins_word}
+use Rattle.base_types.specs.Bytes.{is_space, is_name_byte, is_name}
+use Rattle.base_types.specs.Limits.{most_levels, longest_name}
+use Rattle.depends_expr.specs.Grammar.{Text, spelling, Spaces, no_space, space, Or, one_and, more_or, And, one_not, more_and, Not, not_sign, group, alone, result_of, IsDepends}
+use Rattle.depends_expr.specs.Inside.Reading.{Kind, kind, letter, blank, bang, opening, closing, ampersand, bar, dot, other, State, start, wants, in_name, in_result, done, half_and, half_or, Around, Level, on_wants, on_done, on_name, on_result, on_part, longer_name, add_not, open_level, close_level, operand, negate, times, plus, whole, final, step, read, then_read, words, spelled, begins_word}
 use Rattle.depends_expr.proofs.Bytes.{Says, kind_says}
 
 -- ---- pieces of the text before a place. T is the whole text, and r the rest from the place on
@@ -32,7 +34,7 @@ pub data Inside : ℕ → Text → Level → Text → Type 0 where
 
 -- all of the levels around, from the front of the text
 pub data Outer : Text → List Level → ℕ → Text → Type 0 where
-  outermost : {T r : Text} → Spaces T r → Outer T [] 64 r
+  outermost : {T r : Text} → Spaces T r → Outer T [] most_levels r
   inner : {T t w r : Text} {ls : List Level} {l : Level} {n m : ℕ} → l.room ≡ suc m → Outer T ls n t → Inside n t l (40 ∷ w) → Spaces w r → Outer T (l ∷ ls) m r
 
 pub record At (T : Text) (level : Level) (outer : List Level) (r : Text) : Type 0 where
@@ -193,17 +195,17 @@ all_bytes (c ∷ cs) b h i =
     let parts = and_parts (is_name_byte c) (list_all is_name_byte cs) h in
     and_from _ _ parts.0 (all_bytes cs b parts.1 i)
 
-longer_is_name : (name : Text) (b : ℕ) → IsTrue (is_name name) → length name < 128 → IsTrue (is_name_byte b) → IsTrue (is_name (name ++ b ∷ []))
+longer_is_name : (name : Text) (b : ℕ) → IsTrue (is_name name) → length name < longest_name → IsTrue (is_name_byte b) → IsTrue (is_name (name ++ b ∷ []))
 longer_is_name name b h short i =
-    let parts = and_parts (list_all is_name_byte name && nat_lt 0 (length name)) (nat_le (length name) 128) h in
+    let parts = and_parts (list_all is_name_byte name && nat_lt 0 (length name)) (nat_le (length name) longest_name) h in
     let bytes = and_parts (list_all is_name_byte name) (nat_lt 0 (length name)) parts.0 in
     let some : 0 < length (name ++ b ∷ []) = rw length-append (omega arith) in
-    let few : length (name ++ b ∷ []) ≤ 128 = rw length-append (omega arith) in
+    let few : length (name ++ b ∷ []) ≤ longest_name = rw length-append (omega arith) in
     and_from _ _ (and_from _ _ (all_bytes name b bytes.0 i) (lt-ltb _ _ some)) (le-leb _ _ few)
 
 longer_name_holds : (T r name : Text) (b : ℕ) (a : Around) (s : State) → IsTrue (is_name_byte b) → longer_name name b a ≡ Some s → At T a.level a.outer (name ++ (b ∷ r)) → IsTrue (is_name name) → Holds T s r
 longer_name_holds T r name b a s h p at n =
-    cond_both (nat_lt (length name) 128) (Some (in_name (name ++ b ∷ []) a)) None (λ x. x ≡ Some s → Holds T s r)
+    cond_both (nat_lt (length name) longest_name) (Some (in_name (name ++ b ∷ []) a)) None (λ x. x ≡ Some s → Holds T s r)
     (λ short p. subst (λ x. Holds T x r) (some_same p) (subst (λ x. At T a.level a.outer x) (sym (append_assoc name (b ∷ []) r)) at, longer_is_name name b n (ltb-true _ _ short) h))
     (λ _ p. absurd (none_some p))
     p
@@ -292,7 +294,7 @@ read_holds T s [] e p h = final_holds T s e p h
 read_holds T s (b ∷ r) e p h = on_read_holds T s b r e (step s b) refl (λ t q g. read_holds T t r e q g) p h
 
 pub start_holds : (T : Text) → Holds T start T
-start_holds T = record { begun = 64; from = T; around = outermost no_space; within = inside no_sum no_product no_not }
+start_holds T = record { begun = most_levels; from = T; around = outermost no_space; within = inside no_sum no_product no_not }
 
 -- what is read is of the grammar
 pub meant : (text : Text) (e : Expression) → read start text ≡ Some e → IsDepends text e

@@ -8,9 +8,9 @@ use Rattle.depends_expr.specs.declared.steps.Step.{Step}
 use Rattle.depends_expr.specs.declared.steps.Step.TheVariants.{Bare, Has, Not, And, Or}
 use Rattle.depends_expr.specs.Expression.{Expression, bare, has, negation, both, either}
 use Rattle.depends_expr.specs.Truth.{add_name, add_names, named, names_of}
-use Rattle.depends_expr.specs.Postfix.{postfix, expression_of}
-use Rattle.depends_expr.specs.View.{found, with_name, named_expression, is_position_below, peak, IsWhole}
-use Rattle.depends_expr.specs.Numbering.{leaf, leaves, NumbersStep, Numbers}
+use Rattle.depends_expr.specs.Inside.Postfix.{postfix, expression_of}
+use Rattle.depends_expr.specs.Inside.View.{found, with_name, named_expression, is_position_below, peak, IsWhole}
+use Rattle.depends_expr.specs.Inside.Numbering.{leaf, leaves, NumbersStep, Numbers}
 use Rattle.depends_expr.proofs.Postfixes.{AreSteps}
 
 leaves_append : (xs ys : List (Step (List ℕ))) → leaves (xs ++ ys) ≡ leaves xs ++ leaves ys

@@ -3,7 +3,7 @@ use Rattle.std.specs.Prelude.{ℕ, ◌≤◌, ◌+◌, ◌*◌}
 use Rattle.std.proofs.Common.{arith}
 use Rattle.depends_expr.specs.Expression.{Expression}
 use Rattle.depends_expr.specs.Grammar.{Text, Or, one_and, more_or, And, one_not, more_and, Not, not_sign, group, alone, result_of, IsDepends}
-use Rattle.depends_expr.specs.View.{peak}
+use Rattle.depends_expr.specs.Inside.View.{peak}
 
 mutual
   or_peak : {n : ℕ} {t r : Text} {e : Expression} → Or n t e r → peak e ≤ 2 * n + 3

@@ -4,7 +4,7 @@ use Rattle.std.proofs.Common.{ap, sym, ◌∙◌, append_assoc, append-nil}
 use Rattle.depends_expr.specs.declared.steps.Step.{Step}
 use Rattle.depends_expr.specs.declared.steps.Step.TheVariants.{Not, And, Or}
 use Rattle.depends_expr.specs.Expression.{Word, succeeded, failed, errored, skipped, omitted, daemoned, any_succeeded, all_failed, Expression, bare, has, negation, both, either}
-use Rattle.depends_expr.specs.Postfix.{word_of, outcome_of, postfix, built, top, expression_of}
+use Rattle.depends_expr.specs.Inside.Postfix.{word_of, outcome_of, postfix, built, top, expression_of}
 
 pub word_again : (w : Word) → word_of (outcome_of w) ≡ w
 word_again succeeded = refl

@@ -1,9 +1,10 @@
 -- Expressions of texts, by the definitions alone.
 use Rattle.std.specs.Prelude.{◌≡◌, refl, codes, Some}
 use Rattle.depends_expr.specs.Expression.{failed, bare, has, negation, both, either}
-use Rattle.depends_expr.specs.Reading.{start, read, place}
+use Rattle.depends_expr.specs.Inside.Reading.{start, place}
+use Rattle.depends_expr.specs.Meaning.{depends_of}
 
-plain : read start (codes " A&&!B.Failed || (C )") ≡ Some (either (both (bare (codes "A")) (negation (has (codes "B") failed))) (bare (codes "C")))
+plain : depends_of (codes " A&&!B.Failed || (C )") ≡ Some (either (both (bare (codes "A")) (negation (has (codes "B") failed))) (bare (codes "C")))
 plain = refl
 
 unfinished : place start (codes "A &&") ≡ 4

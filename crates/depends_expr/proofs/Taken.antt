@@ -4,8 +4,10 @@ use Rattle.std.proofs.Common.{ap, sym, ◌∙◌, arith, append_assoc, append-ni
 use Rattle.std.specs.List.{list_all}
 use Rattle.std.proofs.lemmas.Bool.{false≢true, and_parts, leb-true, lt-ltb, cond-true}
 use Rattle.depends_expr.specs.Expression.{Word, succeeded, failed, errored, skipped, omitted, daemoned, any_succeeded, all_failed, Expression, bare, has, negation, both}
-use Rattle.depends_expr.specs.Grammar.{Text, is_name_byte, is_name, spelling, Spaces, no_space, space, Or, one_and, more_or, And, one_not, more_and, Not, not_sign, group, alone, result_of, IsDepends}
-use Rattle.depends_expr.specs.Reading.{Kind, kind, letter, blank, bang, opening, closing, ampersand, bar, dot, other, start, wants, in_name, done, Around, Level, fresh, on_wants, on_done, on_name, on_operand, operand, negate, times, plus, read, then_read}
+use Rattle.base_types.specs.Bytes.{is_name_byte, is_name}
+use Rattle.base_types.specs.Limits.{longest_name}
+use Rattle.depends_expr.specs.Grammar.{Text, spelling, Spaces, no_space, space, Or, one_and, more_or, And, one_not, more_and, Not, not_sign, group, alone, result_of, IsDepends}
+use Rattle.depends_expr.specs.Inside.Reading.{Kind, kind, letter, blank, bang, opening, closing, ampersand, bar, dot, other, start, wants, in_name, done, Around, Level, fresh, on_wants, on_done, on_name, on_operand, operand, negate, times, plus, read, then_read}
 use Rattle.depends_expr.proofs.Bytes.{space_kind, name_kind}
 
 pub spaces_wanting : {t u : Text} → Spaces t u → (a : Around) → read (wants a) t ≡ read (wants a) u
@@ -47,24 +49,24 @@ name_ends : (u : Text) (name : Text) (a : Around) → IsTrue (is_end u) → read
 name_ends [] name a h = refl
 name_ends (b ∷ u) name a h = ap (λ s. then_read s (λ x. read x u)) (end_step (kind b) b name a h)
 
-name_goes_on : (before name u : Text) (a : Around) → IsTrue (list_all is_name_byte name) → length before + length name ≤ 128 → read (in_name before a) (name ++ u) ≡ read (in_name (before ++ name) a) u
+name_goes_on : (before name u : Text) (a : Around) → IsTrue (list_all is_name_byte name) → length before + length name ≤ longest_name → read (in_name before a) (name ++ u) ≡ read (in_name (before ++ name) a) u
 name_goes_on before [] u a h l = ap (λ x. read (in_name x a) u) (sym (append-nil before))
 name_goes_on before (b ∷ bs) u a h l =
     let parts = and_parts (is_name_byte b) (list_all is_name_byte bs) h in
-    let short : length before < 128 = omega arith in
-    let fits : length (before ++ b ∷ []) + length bs ≤ 128 = rw length-append (omega arith) in
+    let short : length before < longest_name = omega arith in
+    let fits : length (before ++ b ∷ []) + length bs ≤ longest_name = rw length-append (omega arith) in
     ap (λ k. then_read (on_name k b before a) (λ x. read x (bs ++ u))) (name_kind b parts.0)
-    ∙ ap (λ s. then_read s (λ x. read x (bs ++ u))) (cond-true (nat_lt (length before) 128) _ _ (lt-ltb _ _ short))
+    ∙ ap (λ s. then_read s (λ x. read x (bs ++ u))) (cond-true (nat_lt (length before) longest_name) _ _ (lt-ltb _ _ short))
     ∙ name_goes_on (before ++ b ∷ []) bs u a parts.1 fits
     ∙ ap (λ x. read (in_name x a) u) (append_assoc before (b ∷ []) bs)
 
 name_read : (name u : Text) (a : Around) → IsTrue (is_name name) → read (wants a) (name ++ u) ≡ read (in_name name a) u
 name_read [] u a h = absurd (false≢true h)
 name_read (b ∷ bs) u a h =
-    let parts = and_parts (list_all is_name_byte (b ∷ bs) && nat_lt 0 (length (b ∷ bs))) (nat_le (length (b ∷ bs)) 128) h in
+    let parts = and_parts (list_all is_name_byte (b ∷ bs) && nat_lt 0 (length (b ∷ bs))) (nat_le (length (b ∷ bs)) longest_name) h in
     let bytes = and_parts (list_all is_name_byte (b ∷ bs)) (nat_lt 0 (length (b ∷ bs))) parts.0 in
     let each = and_parts (is_name_byte b) (list_all is_name_byte bs) bytes.0 in
-    let short : length (b ∷ bs) ≤ 128 = leb-true _ _ parts.1 in
+    let short : length (b ∷ bs) ≤ longest_name = leb-true _ _ parts.1 in
     ap (λ k. then_read (on_wants k b a) (λ x. read x (bs ++ u))) (name_kind b each.0)
     ∙ name_goes_on (b ∷ []) bs u a each.1 (omega arith)
 

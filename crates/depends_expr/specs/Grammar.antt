@@ -1,6 +1,7 @@
 -- The grammar of a `depends` (Argo's enhanced depends logic, with the nesting that this project allows).
-use Rattle.std.specs.Prelude.{ℕ, suc, List, [], ◌∷◌, ◌++◌, length, take, ◌≤◌, Bool, ◌||◌, ◌&&◌, ◌==◌, nat_lt, nat_le, IsTrue, codes}
-use Rattle.std.specs.List.{list_all}
+use Rattle.std.specs.Prelude.{ℕ, suc, List, [], ◌∷◌, ◌++◌, length, take, ◌≤◌, IsTrue, codes}
+use Rattle.base_types.specs.Bytes.{is_space, is_name}
+use Rattle.base_types.specs.Limits.{most_levels}
 use Rattle.depends_expr.specs.Expression.{Word, succeeded, failed, errored, skipped, omitted, daemoned, any_succeeded, all_failed, Expression, bare, has, negation, both, either}
 
 abbrev pub Text : Type 0
@@ -8,25 +9,10 @@ Text = List ℕ
 
 -- ---- symbols. In "t is such a symbol, then u", t is a text and u is the rest of it
 
--- a space or a tab
-abbrev pub is_space : ℕ → Bool
-is_space b = (b == 32) || (b == 9)
-
 -- t is some spaces, perhaps none, then u
 pub data Spaces : Text → Text → Type 0 where
   no_space : {t : Text} → Spaces t t
   space : {b : ℕ} {t u : Text} → IsTrue (is_space b) → Spaces t u → Spaces (b ∷ t) u
-
-abbrev pub is_between : ℕ → ℕ → ℕ → Bool
-is_between low high b = nat_le low b && nat_le b high
-
--- an ASCII letter or digit, `-` or `_`
-abbrev pub is_name_byte : ℕ → Bool
-is_name_byte b = is_between 97 122 b || is_between 65 90 b || is_between 48 57 b || (b == 45) || (b == 95)
-
--- 1 to 128 of them
-abbrev pub is_name : List ℕ → Bool
-is_name name = list_all is_name_byte name && nat_lt 0 (length name) && nat_le (length name) 128
 
 abbrev pub spelling : Word → Text
 spelling succeeded = codes "Succeeded"
@@ -64,7 +50,7 @@ mutual
 
 -- the text is of the grammar, and says e
 abbrev pub IsDepends : Text → Expression → Type 0
-IsDepends text e = (t : Text) × Spaces text t × Or 64 t e []
+IsDepends text e = (t : Text) × Spaces text t × Or most_levels t e []
 
 -- some text of the grammar begins so
 abbrev pub IsStart : Text → Type 0

@@ -1,9 +1,7 @@
 pub mod Expression
 pub mod Truth
 pub mod Grammar
-pub mod Reading
-pub mod Postfix
-pub mod View
-pub mod Drafts
-pub mod Numbering
-pub mod Values
+pub mod Meaning
+pub mod Inside
+pub use Rattle.base_types.specs.Bytes
+pub use Rattle.base_types.specs.Limits

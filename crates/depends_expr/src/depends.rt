@@ -5,7 +5,7 @@ ghost use Rattle.depends_expr.specs.declared.results.TaskResult.{TaskResult as R
 ghost use Rattle.depends_expr.specs.declared.refused.DependsRefused.TheVariants as refused;
 ghost use Rattle.depends_expr.specs.Truth.{truth, names_of};
 ghost use Rattle.depends_expr.specs.Grammar.{IsDepends, IsBadAt};
-ghost use Rattle.depends_expr.specs.View.{peak};
+ghost use Rattle.depends_expr.specs.Inside.View.{peak};
 
 use crate::evaluation::evaluate;
 use crate::numbering::number;
@@ -30,7 +30,7 @@ impl Model for Depends {
 
     ghost coded = { expression_code };
 
-    ghost use Rattle.depends_expr.specs.View.{named_expression, IsWhole};
+    ghost use Rattle.depends_expr.specs.Inside.View.{named_expression, IsWhole};
 
     ghost view = { λ a. named_expression a.names a.steps };
 

@@ -3,9 +3,9 @@
 ghost use Rattle.std.specs.Prelude.{◌≡◌, ◌<◌, length, IsTrue, [], ◌∷◌};
 ghost use Rattle.std.specs.List.{list_all};
 ghost use Rattle.depends_expr.specs.Truth.{holds, bare_holds};
-ghost use Rattle.depends_expr.specs.Postfix.{word_of};
-ghost use Rattle.depends_expr.specs.View.{is_position_below};
-ghost use Rattle.depends_expr.specs.Values.{value_of, values, top_value, has_room, values_after, fits, result_at};
+ghost use Rattle.depends_expr.specs.Inside.Postfix.{word_of};
+ghost use Rattle.depends_expr.specs.Inside.View.{is_position_below};
+ghost use Rattle.depends_expr.specs.Inside.Values.{value_of, values, top_value, has_room, values_after, fits, result_at};
 
 use crate::TaskResult;
 use crate::steps::{Outcome, Step};

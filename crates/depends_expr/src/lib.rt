@@ -3,14 +3,13 @@
 
 pub mod depends;
 mod evaluation;
+pub mod law;
 mod names;
 mod numbering;
 mod reading;
 mod refused;
 pub mod results;
 mod steps;
-#[cfg(test)]
-mod tests;
 
 pub use depends::{Depends, eval, parse_depends};
 pub use refused::DependsRefused;

@@ -1,7 +1,7 @@
 //! Steps whose names are replaced by positions in a list of names.
 
 ghost use Rattle.std.specs.Prelude.{◌≡◌, IfOk, OnOk};
-ghost use Rattle.depends_expr.specs.Numbering.{NumbersStep, Numbers};
+ghost use Rattle.depends_expr.specs.Inside.Numbering.{NumbersStep, Numbers};
 
 use crate::names::NameTable;
 use crate::steps::Step;

@@ -4,14 +4,15 @@ ghost use Rattle.std.specs.Prelude.{◌≡◌, ℕ, ◌<◌, ◌-◌, ◌++◌, 
 ghost use Rattle.std.specs.List.{list_any};
 ghost use Rattle.depends_expr.specs.Expression.{bare, has};
 ghost use Rattle.depends_expr.specs.Grammar.{spelling};
-ghost use Rattle.depends_expr.specs.Postfix.{word_of};
-ghost use Rattle.depends_expr.specs.Reading.{kind, times, plus, negate, done, operand as operand_state, add_not as add_not_state, open_level as open_level_state, close_level as close_level_state, on_done, on_wants, on_name, on_result, spelled, words, begins_word, is_found, behind, step, half_and, half_or, whole as whole_expression, final, start, place, read as read_from};
+ghost use Rattle.depends_expr.specs.Inside.Postfix.{word_of};
+ghost use Rattle.depends_expr.specs.Inside.Reading.{kind, times, plus, negate, done, operand as operand_state, add_not as add_not_state, open_level as open_level_state, close_level as close_level_state, on_done, on_wants, on_name, on_result, spelled, words, begins_word, is_found, behind, step, half_and, half_or, whole as whole_expression, final, start, place, read as read_from};
 ghost use Rattle.depends_expr.specs.declared.refused.DependsRefused.TheVariants as refused;
-ghost use Rattle.depends_expr.specs.Drafts.{kind_of, level_of, levels_of, around_of, behind_of, state_of, next_of};
+ghost use Rattle.depends_expr.specs.Inside.Drafts.{kind_of, level_of, levels_of, around_of, behind_of, state_of, next_of};
 
 use crate::DependsRefused;
 use crate::steps::{Draft, OUTCOMES, Outcome};
-use base_types::{Memory, Text};
+use base_types::limits::{LONGEST_NAME, MOST_LEVELS};
+use base_types::{Memory, Text, is_name_byte};
 use std::alloc::Global;
 
 /// What a byte is to the grammar.
@@ -69,8 +70,10 @@ pub(crate) enum State {
 pub(crate) fn kind_at(byte: u8) -> Kind
     ensures { kind_of result ≡ kind byte }
 {
+    if is_name_byte(byte) {
+        return Kind::Letter;
+    }
     match byte {
-        b'a'..=b'z' | b'A'..=b'Z' | b'0'..=b'9' | b'-' | b'_' => Kind::Letter,
         b' ' | b'\t' => Kind::Blank,
         b'!' => Kind::Bang,
         b'(' => Kind::Opening,
@@ -236,7 +239,7 @@ fn in_name(alloc: Global, byte: u8, name: String, around: Around) -> Result<Opti
     let kind = kind_at(byte);
     match kind {
         Kind::Letter => {
-            if name.len() < 128 {
+            if name.len() < LONGEST_NAME {
                 let name = with_byte(name, byte)?;
                 Ok(Some(State::InName(name, around)))
             } else {
@@ -429,8 +432,8 @@ fn beginning(alloc: Global) -> State
         level: Level {
             sum: None,
             product: None,
-            begun: 64,
-            room: 64,
+            begun: MOST_LEVELS as u8,
+            room: MOST_LEVELS as u8,
         },
         outer: Vec::new(alloc),
     })

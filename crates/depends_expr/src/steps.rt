@@ -4,7 +4,7 @@
 ghost use Rattle.std.specs.Prelude.{◌≡◌, ◌++◌, ◌∷◌, [], IfOk};
 ghost use Rattle.depends_expr.specs.Expression.{bare, has, negation, both, either};
 ghost use Rattle.depends_expr.specs.Grammar.{spelling};
-ghost use Rattle.depends_expr.specs.Postfix.{word_of};
+ghost use Rattle.depends_expr.specs.Inside.Postfix.{word_of};
 
 use base_types::{Memory, Text, TryCopy};
 use std::alloc::Global;
@@ -89,7 +89,7 @@ impl Model for Draft {
 
     ghost coded = { expression_code };
 
-    ghost use Rattle.depends_expr.specs.Postfix.{postfix, expression_of};
+    ghost use Rattle.depends_expr.specs.Inside.Postfix.{postfix, expression_of};
 
     ghost view = { λ a. expression_of a.steps.items };
 

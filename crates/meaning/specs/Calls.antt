@@ -18,7 +18,7 @@ use Rattle.tree_types.specs.Phases.{fulfilled, is_skipped, is_omitted, is_succee
 use Rattle.node_names.specs.declared.seg.Seg.TheVariants as seg
 use Rattle.tag_text.specs.declared.part.Part.{Part}
 use Rattle.when_expr.specs.Expression.{Condition}
-use Rattle.when_expr.specs.Grammar.{when_of}
+use Rattle.when_expr.specs.Meaning.{when_of}
 use Rattle.when_expr.specs.Truth.{truth}
 use Rattle.wf_manifest.specs.declared.calls.Argument.{Argument}
 use Rattle.wf_manifest.specs.declared.calls.Loop.{Loop}

@@ -1,8 +1,10 @@
 -- What the kind of a byte says of it.
-use Rattle.std.specs.Prelude.{◌≡◌, ℕ, ◌==◌, IsTrue, refl}
-use Rattle.std.proofs.Common.{ap, inl, inr}
+use Rattle.std.specs.Prelude.{◌≡◌, ℕ, Bool, true, false, cond, not, ◌||◌, ◌==◌, IsTrue, refl}
+use Rattle.std.proofs.Common.{ap, sym, ◌∙◌, inl, inr}
 use Rattle.std.proofs.lemmas.Bool.{false≢true, or_cases, eqb-true, cond-true, cond_both}
-use Rattle.when_expr.specs.Symbols.{Kind, letter, blank, quote, bang, opening, closing, ampersand, bar, equals, less, greater, kind, sign_kind, is_space, is_quote, is_word_byte, is_letter}
+use Rattle.base_types.specs.Bytes.{is_space}
+use Rattle.when_expr.specs.Grammar.{is_quote, is_word_byte}
+use Rattle.when_expr.specs.Inside.Kinds.{Kind, letter, blank, quote, bang, opening, closing, ampersand, bar, equals, less, greater, kind, sign_kind, is_letter}
 
 pub space_kind : (b : ℕ) → IsTrue (is_space b) → kind b ≡ blank
 space_kind b h = cond-true (is_space b) blank _ h
@@ -23,8 +25,30 @@ letter_is equals h = absurd (false≢true h)
 letter_is less h = absurd (false≢true h)
 letter_is greater h = absurd (false≢true h)
 
+-- each byte that is none of the others is of a word
+other_byte : (s q a b c d e f g h : Bool) →
+    is_letter (cond s blank (cond q quote (cond a bang (cond b opening (cond c closing (cond d ampersand (cond e bar (cond f equals (cond g less (cond h greater letter))))))))))
+    ≡ not (s || q || (a || (b || (c || (d || (e || (f || (g || (h || false)))))))))
+other_byte true q a b c d e f g h = refl
+other_byte false true a b c d e f g h = refl
+other_byte false false true b c d e f g h = refl
+other_byte false false false true c d e f g h = refl
+other_byte false false false false true d e f g h = refl
+other_byte false false false false false true e f g h = refl
+other_byte false false false false false false true f g h = refl
+other_byte false false false false false false false true g h = refl
+other_byte false false false false false false false false true h = refl
+other_byte false false false false false false false false false true = refl
+other_byte false false false false false false false false false false = refl
+
+letter_byte : (b : ℕ) → is_letter (kind b) ≡ is_word_byte b
+letter_byte b = other_byte (is_space b) (is_quote b) (b == 33) (b == 40) (b == 41) (b == 38) (b == 124) (b == 61) (b == 60) (b == 62)
+
+pub letter_is_word : (b : ℕ) → kind b ≡ letter → IsTrue (is_word_byte b)
+letter_is_word b h = sym (letter_byte b) ∙ ap is_letter h
+
 pub word_kind : (b : ℕ) → IsTrue (is_word_byte b) → kind b ≡ letter
-word_kind b h = letter_is (kind b) h
+word_kind b h = letter_is (kind b) (letter_byte b ∙ h)
 
 abbrev pub Says : ℕ → Kind → Type 0
 Says b letter = Unit {0}

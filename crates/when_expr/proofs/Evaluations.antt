@@ -6,8 +6,8 @@ use Rattle.when_expr.specs.declared.steps.Step.{Step}
 use Rattle.when_expr.specs.declared.steps.Step.TheVariants.{Literal, Test, Not, And, Or}
 use Rattle.when_expr.specs.Expression.{Condition, literal, test, negated, all_of, any_of}
 use Rattle.when_expr.specs.Truth.{truth}
-use Rattle.when_expr.specs.Postfix.{postfix, build, built, condition_of, peak, IsWhole}
-use Rattle.when_expr.specs.Values.{value_of, values, top_value, fits}
+use Rattle.when_expr.specs.Inside.Postfix.{postfix, build, built, condition_of, peak, IsWhole}
+use Rattle.when_expr.specs.Inside.Values.{value_of, values, top_value, fits}
 use Rattle.when_expr.proofs.Postfixes.{built_postfix}
 
 step_value : (s : Step) (es : List Condition) → value_of s (map truth es) ≡ map truth (build s es)

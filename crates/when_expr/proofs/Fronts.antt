@@ -1,12 +1,11 @@
 -- Where the longest front ends that some text of the grammar begins with.
-use Rattle.std.specs.Prelude.{◌≡◌, ℕ, zero, suc, ◌≤◌, List, [], ◌∷◌, ◌++◌, length, take, Option, Some, None, refl}
+use Rattle.std.specs.Prelude.{◌≡◌, ◌↔◌, ℕ, zero, suc, ◌≤◌, List, [], ◌∷◌, ◌++◌, length, take, Option, Some, None, refl}
 use Rattle.std.proofs.Common.{ap, sym, subst, ◌∙◌, arith}
 use Rattle.when_expr.specs.Expression.{equal, Term, quoted, word, Condition, test}
-use Rattle.when_expr.specs.Symbols.{Text}
-use Rattle.when_expr.specs.Grammar.{IsWhen, IsStart, StartEndsAt, IsBadAt}
-use Rattle.when_expr.specs.Reading.{long_order, Side, first, second, State, start, wants, in_quote, in_word, has_term, in_order, wants_term, done, half_and, half_or, Around, Level, operand, joined, plus, step, read, then_read, place, then_place}
+use Rattle.when_expr.specs.Grammar.{Text, IsWhen, IsStart, StartEndsAt, IsBadAt}
+use Rattle.when_expr.specs.Inside.Reading.{long_order, Side, first, second, State, start, wants, in_quote, in_word, has_term, in_order, wants_term, done, half_and, half_or, Around, Level, operand, joined, plus, step, read, then_read, place, then_place}
 use Rattle.when_expr.proofs.Taken.{taken, quote_closes}
-use Rattle.when_expr.proofs.Held.{Holds, step_holds, read_holds, start_holds, none_some, some_same}
+use Rattle.when_expr.proofs.Held.{meant, Holds, step_holds, read_holds, start_holds, none_some, some_same}
 
 -- ---- each state can be completed
 
@@ -135,3 +134,7 @@ bad text p = record { refused = λ e h. none_some (sym p ∙ taken text e h); fa
 -- a text says one thing
 pub one_meaning : (text : Text) (d e : Condition) → IsWhen text d → IsWhen text e → d ≡ e
 one_meaning text d e g h = some_same (sym (taken text d g) ∙ taken text e h)
+
+-- what reading finds is what the grammar says
+pub says : (text : Text) (c : Condition) → (read start text ≡ Some c) ↔ IsWhen text c
+says text c = (meant text c, taken text c)

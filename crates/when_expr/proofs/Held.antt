@@ -5,10 +5,12 @@ use Rattle.std.specs.List.{list_all}
 use Rattle.std.proofs.lemmas.Bool.{and_from, and_parts, lt-ltb, cond_both, eqb-true, not_from_false}
 use Rattle.std.proofs.lemmas.Slice.Eq.{bytes_eq-Decides}
 use Rattle.when_expr.specs.Expression.{Order, below, above, Term, quoted, word, Condition, literal, test, negated}
-use Rattle.when_expr.specs.Symbols.{Text, Kind, letter, blank, quote, bang, opening, closing, ampersand, bar, equals, less, greater, kind, is_space, is_quote, is_word_byte, is_letter}
-use Rattle.when_expr.specs.Grammar.{is_word, lacks, sign, spelling, Spaces, no_space, space, TermIs, a_word, in_quotes, Or, one_and, more_or, And, one_not, more_and, Not, not_sign, group, a_test, a_literal, IsWhen}
-use Rattle.when_expr.specs.Reading.{Mark, one_equals, one_bang, one_less, one_greater, Side, first, second, State, start, wants, in_quote, in_word, has_term, in_order, wants_term, done, half_and, half_or, Around, Level, on_wants, on_done, on_term, on_second, on_word, on_ended, on_order, on_short, on_operand, on_literal, literal_word, literal_of, long_order, side_done, add_not, open_level, close_level, operand, negate, times, plus, whole, whole_operand, whole_literal, final, step, read, then_read}
-use Rattle.when_expr.proofs.Bytes.{Says, kind_says}
+use Rattle.base_types.specs.Bytes.{is_space}
+use Rattle.base_types.specs.Limits.{most_levels}
+use Rattle.when_expr.specs.Inside.Kinds.{Kind, letter, blank, quote, bang, opening, closing, ampersand, bar, equals, less, greater, kind, is_letter}
+use Rattle.when_expr.specs.Grammar.{Text, is_quote, is_word_byte, is_word, lacks, sign, spelling, Spaces, no_space, space, TermIs, a_word, in_quotes, Or, one_and, more_or, And, one_not, more_and, Not, not_sign, group, a_test, a_literal, IsWhen}
+use Rattle.when_expr.specs.Inside.Reading.{Mark, one_equals, one_bang, one_less, one_greater, Side, first, second, State, start, wants, in_quote, in_word, has_term, in_order, wants_term, done, half_and, half_or, Around, Level, on_wants, on_done, on_term, on_second, on_word, on_ended, on_order, on_short, on_operand, on_literal, literal_word, literal_of, long_order, side_done, add_not, open_level, close_level, operand, negate, times, plus, whole, whole_operand, whole_literal, final, step, read, then_read}
+use Rattle.when_expr.proofs.Bytes.{Says, kind_says, letter_is_word}
 
 -- ---- pieces of the text before a place. T is the whole text, and r the rest from the place on
 
@@ -33,7 +35,7 @@ pub data Inside : ℕ → Text → Level → Text → Type 0 where
 
 -- all of the levels around, from the front of the text
 pub data Outer : Text → List Level → ℕ → Text → Type 0 where
-  outermost : {T r : Text} → Spaces T r → Outer T [] 64 r
+  outermost : {T r : Text} → Spaces T r → Outer T [] most_levels r
   inner : {T t w r : Text} {ls : List Level} {l : Level} {n m : ℕ} → l.room ≡ suc m → Outer T ls n t → Inside n t l (40 ∷ w) → Spaces w r → Outer T (l ∷ ls) m r
 
 pub record At (T : Text) (level : Level) (outer : List Level) (r : Text) : Type 0 where
@@ -197,7 +199,7 @@ on_done_holds T r greater b e sum outer room s h p a = absurd (none_some p)
 -- ---- terms
 
 one_byte_word : (b : ℕ) → kind b ≡ letter → IsTrue (is_word (b ∷ []))
-one_byte_word b h = and_from _ _ (and_from _ _ (ap is_letter h) refl) refl
+one_byte_word b h = and_from _ _ (and_from _ _ (letter_is_word b h) refl) refl
 
 all_bytes : (w : Text) (b : ℕ) → IsTrue (list_all is_word_byte w) → IsTrue (is_word_byte b) → IsTrue (list_all is_word_byte (w ++ b ∷ []))
 all_bytes [] b h i = and_from _ _ i refl
@@ -209,7 +211,7 @@ longer_is_word : (w : Text) (b : ℕ) → IsTrue (is_word w) → kind b ≡ lett
 longer_is_word w b h k =
     let parts = and_parts (list_all is_word_byte w) (nat_lt 0 (length w)) h in
     let some : 0 < length (w ++ b ∷ []) = rw length-append (omega arith) in
-    and_from _ _ (all_bytes w b parts.0 (ap is_letter k)) (lt-ltb _ _ some)
+    and_from _ _ (all_bytes w b parts.0 (letter_is_word b k)) (lt-ltb _ _ some)
 
 all_lack : (q : ℕ) (t : Text) (b : ℕ) → IsTrue (lacks q t) → (b == q) ≡ false → IsTrue (lacks q (t ++ b ∷ []))
 all_lack q [] b h i = and_from _ _ (not_from_false (b == q) i) refl
@@ -399,7 +401,7 @@ read_holds T s [] e p h = final_holds T s e p h
 read_holds T s (b ∷ r) e p h = on_read_holds T s b r e (step s b) refl (λ t q g. read_holds T t r e q g) p h
 
 pub start_holds : (T : Text) → Holds T start T
-start_holds T = record { begun = 64; from = T; around = outermost no_space; within = inside no_sum no_product no_not }
+start_holds T = record { begun = most_levels; from = T; around = outermost no_space; within = inside no_sum no_product no_not }
 
 -- what is read is of the grammar
 pub meant : (text : Text) (e : Condition) → read start text ≡ Some e → IsWhen text e

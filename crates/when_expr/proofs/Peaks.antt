@@ -2,9 +2,8 @@
 use Rattle.std.specs.Prelude.{ℕ, ◌≤◌, ◌+◌, ◌*◌}
 use Rattle.std.proofs.Common.{arith}
 use Rattle.when_expr.specs.Expression.{Condition}
-use Rattle.when_expr.specs.Symbols.{Text}
-use Rattle.when_expr.specs.Grammar.{Or, one_and, more_or, And, one_not, more_and, Not, not_sign, group, a_test, a_literal, IsWhen}
-use Rattle.when_expr.specs.Postfix.{peak}
+use Rattle.when_expr.specs.Grammar.{Text, Or, one_and, more_or, And, one_not, more_and, Not, not_sign, group, a_test, a_literal, IsWhen}
+use Rattle.when_expr.specs.Inside.Postfix.{peak}
 
 mutual
   or_peak : {n : ℕ} {t r : Text} {e : Condition} → Or n t e r → peak e ≤ 2 * n + 3

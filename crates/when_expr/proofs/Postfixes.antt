@@ -8,7 +8,7 @@ use Rattle.when_expr.specs.declared.steps.Comparison.TheVariants as o
 use Rattle.when_expr.specs.declared.steps.Side.{Side}
 use Rattle.when_expr.specs.declared.steps.Side.TheVariants as s
 use Rattle.when_expr.specs.Expression.{Order, equal, unequal, below, at_most, above, at_least, Term, quoted, word, Condition, literal, test, negated, all_of, any_of}
-use Rattle.when_expr.specs.Postfix.{order_of, comparison_of, term_of, side_of, postfix, built, top, condition_of, peak, IsWhole}
+use Rattle.when_expr.specs.Inside.Postfix.{order_of, comparison_of, term_of, side_of, postfix, built, top, condition_of, peak, IsWhole}
 
 order_again : (o : Order) → order_of (comparison_of o) ≡ o
 order_again equal = refl

@@ -1,8 +1,8 @@
 -- Conditions of texts, by the definitions alone.
 use Rattle.std.specs.Prelude.{◌≡◌, refl, codes, Some, None, true}
 use Rattle.when_expr.specs.Expression.{equal, below, quoted, word, test, negated, all_of}
-use Rattle.when_expr.specs.Reading.{start, place}
-use Rattle.when_expr.specs.Grammar.{when_of}
+use Rattle.when_expr.specs.Inside.Reading.{start, place}
+use Rattle.when_expr.specs.Meaning.{when_of}
 use Rattle.when_expr.specs.Truth.{truth}
 
 plain : when_of (codes "1 == 2") ≡ Some (test (word (codes "1")) equal (word (codes "2")))

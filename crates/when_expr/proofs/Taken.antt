@@ -4,9 +4,9 @@ use Rattle.std.proofs.Common.{ap, sym, ◌∙◌, arith, append_assoc, append-ni
 use Rattle.std.specs.List.{list_all}
 use Rattle.std.proofs.lemmas.Bool.{false≢true, and_parts, cond-true, cond-false, not-true, eq-eqb}
 use Rattle.when_expr.specs.Expression.{Order, equal, unequal, below, at_most, above, at_least, Term, quoted, word, Condition, literal, test, negated, all_of}
-use Rattle.when_expr.specs.Symbols.{Text, Kind, letter, blank, quote, bang, opening, closing, ampersand, bar, equals, less, greater, kind, is_word_byte}
-use Rattle.when_expr.specs.Grammar.{is_word, lacks, sign, spelling, Spaces, no_space, space, TermIs, a_word, in_quotes, Or, one_and, more_or, And, one_not, more_and, Not, not_sign, group, a_test, a_literal, IsWhen}
-use Rattle.when_expr.specs.Reading.{one_less, one_greater, Side, first, second, start, wants, in_quote, in_word, has_term, wants_term, done, Around, Level, fresh, on_wants, on_done, on_term, on_second, on_word, on_order, on_operand, side_done, operand, negate, times, plus, read, then_read}
+use Rattle.when_expr.specs.Inside.Kinds.{Kind, letter, blank, quote, bang, opening, closing, ampersand, bar, equals, less, greater, kind}
+use Rattle.when_expr.specs.Grammar.{Text, is_word_byte, is_word, lacks, sign, spelling, Spaces, no_space, space, TermIs, a_word, in_quotes, Or, one_and, more_or, And, one_not, more_and, Not, not_sign, group, a_test, a_literal, IsWhen}
+use Rattle.when_expr.specs.Inside.Reading.{one_less, one_greater, Side, first, second, start, wants, in_quote, in_word, has_term, wants_term, done, Around, Level, fresh, on_wants, on_done, on_term, on_second, on_word, on_order, on_operand, side_done, operand, negate, times, plus, read, then_read}
 use Rattle.when_expr.proofs.Bytes.{space_kind, quote_kind, word_kind}
 
 pub spaces_wanting : {t u : Text} → Spaces t u → (a : Around) → read (wants a) t ≡ read (wants a) u

@@ -1,9 +1,12 @@
 -- The grammar of a `when` (the language of these conditions is this project's own).
-use Rattle.std.specs.Prelude.{ℕ, suc, ◌≤◌, [], ◌∷◌, ◌++◌, length, take, Bool, true, false, not, ◌&&◌, ◌==◌, nat_lt, IsTrue, codes, Option}
-use Rattle.std.specs.List.{list_all}
+use Rattle.std.specs.Prelude.{ℕ, suc, ◌≤◌, List, [], ◌∷◌, ◌++◌, length, take, Bool, true, false, not, ◌&&◌, ◌||◌, ◌==◌, nat_lt, IsTrue, codes}
+use Rattle.std.specs.List.{list_all, list_any}
+use Rattle.base_types.specs.Bytes.{is_space}
+use Rattle.base_types.specs.Limits.{most_levels}
 use Rattle.when_expr.specs.Expression.{Order, equal, unequal, below, at_most, above, at_least, Term, quoted, word, Condition, literal, test, negated, all_of, any_of}
-use Rattle.when_expr.specs.Symbols.{Text, is_space, is_quote, is_word_byte}
-use Rattle.when_expr.specs.Reading.{start, read}
+
+abbrev pub Text : Type 0
+Text = List ℕ
 
 -- ---- symbols. In "t is such a symbol, then u", t is a text and u is the rest of it
 
@@ -12,7 +15,18 @@ pub data Spaces : Text → Text → Type 0 where
   no_space : {t : Text} → Spaces t t
   space : {b : ℕ} {t u : Text} → IsTrue (is_space b) → Spaces t u → Spaces (b ∷ t) u
 
--- one byte or more
+-- `'` or `"`
+abbrev pub is_quote : ℕ → Bool
+is_quote b = (b == 39) || (b == 34)
+
+abbrev pub is_sign : ℕ → Bool
+is_sign b = list_any (λ sign. b == sign) (codes "!()&|=<>")
+
+-- any other byte (characters beyond ASCII are of such bytes)
+abbrev pub is_word_byte : ℕ → Bool
+is_word_byte b = not (is_space b || is_quote b || is_sign b)
+
+-- one of them or more
 abbrev pub is_word : Text → Bool
 is_word w = list_all is_word_byte w && nat_lt 0 (length w)
 
@@ -64,7 +78,7 @@ mutual
 
 -- the text is of the grammar, and says c
 abbrev pub IsWhen : Text → Condition → Type 0
-IsWhen text c = (t : Text) × Spaces text t × Or 64 t c []
+IsWhen text c = (t : Text) × Spaces text t × Or most_levels t c []
 
 -- some text of the grammar begins so
 abbrev pub IsStart : Text → Type 0
@@ -80,7 +94,3 @@ pub record StartEndsAt (text : Text) (place : ℕ) : Type 0 where
 pub record IsBadAt (text : Text) (place : ℕ) : Type 0 where
   pub refused : (c : Condition) → IsWhen text c → ⊥
   pub fault : StartEndsAt text place
-
--- the condition of a text of the grammar, as reading finds it
-abbrev pub when_of : Text → Option Condition
-when_of text = read start text

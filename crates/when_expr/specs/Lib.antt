@@ -1,8 +1,7 @@
 pub mod Expression
 pub mod Truth
-pub mod Symbols
-pub mod Reading
 pub mod Grammar
-pub mod Postfix
-pub mod Drafts
-pub mod Values
+pub mod Meaning
+pub mod Inside
+pub use Rattle.base_types.specs.Bytes
+pub use Rattle.base_types.specs.Limits

@@ -2,8 +2,8 @@
 
 ghost use Rattle.std.specs.Prelude.{◌≡◌, ◌<◌, length, IsTrue, [], ◌∷◌};
 ghost use Rattle.when_expr.specs.Truth.{term_number, term_text, numbers, same, is_in_order, test_truth, not_then, and_then, or_then};
-ghost use Rattle.when_expr.specs.Postfix.{term_of, order_of};
-ghost use Rattle.when_expr.specs.Values.{value_of, values, top_value, has_room, values_after, fits};
+ghost use Rattle.when_expr.specs.Inside.Postfix.{term_of, order_of};
+ghost use Rattle.when_expr.specs.Inside.Values.{value_of, values, top_value, has_room, values_after, fits};
 
 use crate::number::number_of;
 use crate::steps::{Comparison, Side, Step};

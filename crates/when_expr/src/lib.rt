@@ -2,12 +2,11 @@
 #![tactic(auto)]
 
 mod evaluation;
+pub mod law;
 mod number;
 mod reading;
 mod refused;
 mod steps;
-#[cfg(test)]
-mod tests;
 pub mod when;
 
 pub use refused::{NotNumbers, WhenRefused};

@@ -1,15 +1,16 @@
 //! The reading of a `when`, byte by byte: what is open after a text, or that no text of the grammar begins so.
 
 ghost use Rattle.std.specs.Prelude.{◌≡◌, ◌≢◌, ℕ, ◌-◌, ◌++◌, ◌∷◌, [], IfOk, IfErr, Some, None, option_map};
-ghost use Rattle.when_expr.specs.Symbols.{kind};
+ghost use Rattle.when_expr.specs.Inside.Kinds.{kind};
 ghost use Rattle.when_expr.specs.Expression.{quoted, literal};
-ghost use Rattle.when_expr.specs.Postfix.{term_of, order_of};
-ghost use Rattle.when_expr.specs.Reading.{times, plus, negate, done, operand as operand_state, add_not as add_not_state, open_level as open_level_state, close_level as close_level_state, on_done, on_wants, on_term, on_second, on_order, on_operand, on_ended, on_word, literal_word, literal_of as term_literal_of, on_literal, whole_literal, in_quote as in_quote_state, in_word as in_word_state, side_done, long_order, step, half_and, half_or, whole as whole_condition, final, start, place, read as read_from};
+ghost use Rattle.when_expr.specs.Inside.Postfix.{term_of, order_of};
+ghost use Rattle.when_expr.specs.Inside.Reading.{times, plus, negate, done, operand as operand_state, add_not as add_not_state, open_level as open_level_state, close_level as close_level_state, on_done, on_wants, on_term, on_second, on_order, on_operand, on_ended, on_word, literal_word, literal_of as term_literal_of, on_literal, whole_literal, in_quote as in_quote_state, in_word as in_word_state, side_done, long_order, step, half_and, half_or, whole as whole_condition, final, start, place, read as read_from};
 ghost use Rattle.when_expr.specs.declared.refused.WhenRefused.TheVariants as refused;
-ghost use Rattle.when_expr.specs.Drafts.{kind_of, mark_of, place_of, level_of, levels_of, around_of, behind_of, state_of, next_of};
+ghost use Rattle.when_expr.specs.Inside.Drafts.{kind_of, mark_of, place_of, level_of, levels_of, around_of, behind_of, state_of, next_of};
 
 use crate::WhenRefused;
 use crate::steps::{Comparison, Draft, Side};
+use base_types::limits::MOST_LEVELS;
 use base_types::{Bytes, Memory};
 use std::alloc::Global;
 
@@ -589,8 +590,8 @@ fn beginning(alloc: Global) -> State
         level: Level {
             sum: None,
             product: None,
-            begun: 64,
-            room: 64,
+            begun: MOST_LEVELS as u8,
+            room: MOST_LEVELS as u8,
         },
         outer: Vec::new(alloc),
     })

@@ -3,7 +3,7 @@
 
 ghost use Rattle.std.specs.Prelude.{◌≡◌, ◌++◌, ◌∷◌, [], IfOk};
 ghost use Rattle.when_expr.specs.Expression.{literal, test, negated, all_of, any_of};
-ghost use Rattle.when_expr.specs.Postfix.{term_of, order_of};
+ghost use Rattle.when_expr.specs.Inside.Postfix.{term_of, order_of};
 
 use base_types::{Bytes, Memory, TryCopy};
 use std::alloc::Global;
@@ -80,7 +80,7 @@ impl Model for Draft {
 
     ghost coded = { condition_code };
 
-    ghost use Rattle.when_expr.specs.Postfix.{postfix, condition_of};
+    ghost use Rattle.when_expr.specs.Inside.Postfix.{postfix, condition_of};
 
     ghost view = { λ a. condition_of a.steps.items };
 

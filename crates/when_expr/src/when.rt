@@ -3,7 +3,7 @@
 ghost use Rattle.std.specs.Prelude.{◌≡◌, ◌≢◌, ℕ, ◌≤◌, Ok, Some, None, Bool, IfOk, IfErr, IsErr};
 ghost use Rattle.when_expr.specs.declared.refused.WhenRefused.TheVariants as refused;
 ghost use Rattle.when_expr.specs.Grammar.{IsWhen, IsBadAt};
-ghost use Rattle.when_expr.specs.Postfix.{peak};
+ghost use Rattle.when_expr.specs.Inside.Postfix.{peak};
 ghost use Rattle.when_expr.specs.Truth.{truth};
 
 use crate::evaluation::evaluate;
@@ -27,7 +27,7 @@ impl Model for When {
 
     ghost coded = { condition_code };
 
-    ghost use Rattle.when_expr.specs.Postfix.{condition_of, IsWhole};
+    ghost use Rattle.when_expr.specs.Inside.Postfix.{condition_of, IsWhole};
 
     ghost view = { λ a. condition_of a.steps };
 

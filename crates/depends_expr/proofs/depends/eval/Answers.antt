@@ -1,7 +1,7 @@
 use Rattle.std.proofs.Common.{◌≡◌, ap, sym, subst, ◌∙◌, []}
 use Rattle.std.specs.Prelude.{IsTrue, map}
 use Rattle.depends_expr.specs.Truth.{truth, names_of}
-use Rattle.depends_expr.specs.Values.{values, top_value, fits}
+use Rattle.depends_expr.specs.Inside.Values.{values, top_value, fits}
 use Rattle.depends_expr.proofs.Evaluations.{whole_value, whole_fits}
 use Rattle.depends_expr.proofs.depends.eval.Goals as goal
 

@@ -1,5 +1,5 @@
 use Rattle.std.proofs.Common.{ap, sym, ◌∙◌}
-use Rattle.depends_expr.specs.Reading.{read, start}
+use Rattle.depends_expr.specs.Inside.Reading.{read, start}
 use Rattle.depends_expr.proofs.Held.{meant}
 use Rattle.depends_expr.proofs.Peaks.{low}
 use Rattle.depends_expr.proofs.depends.parse_depends.Goals as goal

@@ -1,8 +1,8 @@
 use Rattle.std.proofs.Common.{◌≡◌, drop, length, []}
 use Rattle.std.specs.Prelude.{IsTrue}
 use Rattle.std.specs.List.{list_all}
-use Rattle.depends_expr.specs.View.{is_position_below}
-use Rattle.depends_expr.specs.Values.{values, fits}
+use Rattle.depends_expr.specs.Inside.View.{is_position_below}
+use Rattle.depends_expr.specs.Inside.Values.{values, fits}
 use Rattle.depends_expr.proofs.evaluation.evaluate.Given as goal
 
 -- the values so far and the steps that are left make the values of all steps

@@ -1,5 +1,5 @@
 use Rattle.std.proofs.Common.{take}
-use Rattle.depends_expr.specs.Numbering.{Numbers}
+use Rattle.depends_expr.specs.Inside.Numbering.{Numbers}
 use Rattle.depends_expr.proofs.numbering.number.Given as goal
 
 -- the steps so far are numbered

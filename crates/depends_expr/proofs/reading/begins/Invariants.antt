@@ -1,5 +1,5 @@
 use Rattle.std.proofs.Common.{◌≡◌, drop}
-use Rattle.depends_expr.specs.Reading.{behind}
+use Rattle.depends_expr.specs.Inside.Reading.{behind}
 use Rattle.depends_expr.proofs.reading.begins.Given as goal
 
 -- what is behind the bytes so far decides

@@ -2,8 +2,8 @@ use Rattle.std.proofs.Common.{◌≡◌, drop}
 use Rattle.std.specs.Prelude.{map}
 use Rattle.std.specs.List.{list_any}
 use Rattle.depends_expr.specs.Grammar.{spelling}
-use Rattle.depends_expr.specs.Postfix.{word_of}
-use Rattle.depends_expr.specs.Reading.{is_found, behind}
+use Rattle.depends_expr.specs.Inside.Postfix.{word_of}
+use Rattle.depends_expr.specs.Inside.Reading.{is_found, behind}
 use Rattle.depends_expr.proofs.reading.begins_among.Given as goal
 
 -- those behind decide

@@ -1,5 +1,5 @@
 use Rattle.std.proofs.Common.{◌≡◌, ◌-◌}
-use Rattle.depends_expr.specs.Reading.{negate}
+use Rattle.depends_expr.specs.Inside.Reading.{negate}
 use Rattle.depends_expr.proofs.reading.negate_times.Given as goal
 
 -- what is left to negate makes the whole of it

@@ -1,7 +1,7 @@
 use Rattle.std.proofs.Common.{◌≡◌, drop}
 use Rattle.std.specs.Prelude.{map}
-use Rattle.depends_expr.specs.Postfix.{word_of}
-use Rattle.depends_expr.specs.Reading.{spelled}
+use Rattle.depends_expr.specs.Inside.Postfix.{word_of}
+use Rattle.depends_expr.specs.Inside.Reading.{spelled}
 use Rattle.depends_expr.proofs.reading.outcome_among.Given as goal
 
 -- those behind decide

@@ -1,6 +1,6 @@
 use Rattle.std.proofs.Common.{◌≡◌, ◌+◌, drop}
-use Rattle.depends_expr.specs.Reading.{start, read, place}
-use Rattle.depends_expr.specs.Drafts.{state_of}
+use Rattle.depends_expr.specs.Inside.Reading.{start, read, place}
+use Rattle.depends_expr.specs.Inside.Drafts.{state_of}
 use Rattle.depends_expr.proofs.reading.read.Given as goal
 
 -- what comes of the rest of the text comes of the whole

@@ -1,6 +1,6 @@
 use Rattle.std.proofs.Common.{◌≡◌, drop, length, []}
 use Rattle.std.specs.Prelude.{IsTrue}
-use Rattle.when_expr.specs.Values.{values, fits}
+use Rattle.when_expr.specs.Inside.Values.{values, fits}
 use Rattle.when_expr.proofs.evaluation.evaluate.Given as goal
 
 -- the values so far and the steps that are left make the values of all steps

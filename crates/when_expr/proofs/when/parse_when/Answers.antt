@@ -1,5 +1,5 @@
 use Rattle.std.proofs.Common.{ap, sym, ◌∙◌}
-use Rattle.when_expr.specs.Reading.{read, start}
+use Rattle.when_expr.specs.Inside.Reading.{read, start}
 use Rattle.when_expr.proofs.Held.{meant}
 use Rattle.when_expr.proofs.Peaks.{low}
 use Rattle.when_expr.proofs.when.parse_when.Goals as goal

@@ -1,7 +1,7 @@
 use Rattle.std.proofs.Common.{ap, sym, subst, ◌∙◌, []}
 use Rattle.std.specs.Prelude.{IsTrue}
 use Rattle.when_expr.specs.Truth.{truth}
-use Rattle.when_expr.specs.Values.{values, top_value, fits}
+use Rattle.when_expr.specs.Inside.Values.{values, top_value, fits}
 use Rattle.when_expr.proofs.Evaluations.{whole_value, whole_fits}
 use Rattle.when_expr.proofs.when.value_of.Goals as goal
 

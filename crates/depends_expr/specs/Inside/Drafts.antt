@@ -8,7 +8,7 @@ use Rattle.depends_expr.specs.declared.reading.Behind.{Behind as CodeBehind}
 use Rattle.depends_expr.specs.declared.reading.State.{State as CodeState}
 use Rattle.depends_expr.specs.declared.reading.State.TheVariants as s
 use Rattle.depends_expr.specs.Expression.{Expression}
-use Rattle.depends_expr.specs.Reading.{Kind, letter, blank, bang, opening, closing, ampersand, bar, dot, other, Level, Around, State, wants, in_name, in_result, done, half_and, half_or}
+use Rattle.depends_expr.specs.Inside.Reading.{Kind, letter, blank, bang, opening, closing, ampersand, bar, dot, other, Level, Around, State, wants, in_name, in_result, done, half_and, half_or}
 
 abbrev pub kind_of : CodeKind → Kind
 kind_of k.Letter = letter

@@ -4,7 +4,7 @@ use Rattle.std.specs.Prelude.{ℕ, ◌+◌, ◌-◌, List, [], ◌∷◌, Bool, 
 use Rattle.when_expr.specs.declared.steps.Step.{Step}
 use Rattle.when_expr.specs.declared.steps.Step.TheVariants.{Literal, Test, Not, And, Or}
 use Rattle.when_expr.specs.Truth.{test_truth, not_then, and_then, or_then}
-use Rattle.when_expr.specs.Postfix.{term_of, order_of}
+use Rattle.when_expr.specs.Inside.Postfix.{term_of, order_of}
 
 -- what a step makes of the values so far, the latest first
 abbrev pub value_of : Step → List (Option Bool) → List (Option Bool)

@@ -4,7 +4,7 @@ use Rattle.depends_expr.specs.declared.results.TaskResult.{TaskResult}
 use Rattle.depends_expr.specs.declared.steps.Step.{Step}
 use Rattle.depends_expr.specs.declared.steps.Step.TheVariants.{Bare, Has, Not, And, Or}
 use Rattle.depends_expr.specs.Truth.{holds, bare_holds}
-use Rattle.depends_expr.specs.Postfix.{word_of}
+use Rattle.depends_expr.specs.Inside.Postfix.{word_of}
 
 abbrev pub nothing : TaskResult
 nothing = record {

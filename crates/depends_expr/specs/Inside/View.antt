@@ -5,7 +5,7 @@ use Rattle.depends_expr.specs.declared.steps.Step.{Step}
 use Rattle.depends_expr.specs.declared.steps.Step.TheVariants.{Bare, Has, Not, And, Or}
 use Rattle.depends_expr.specs.Expression.{Expression, bare, has, negation, both, either}
 use Rattle.depends_expr.specs.Truth.{names_of}
-use Rattle.depends_expr.specs.Postfix.{postfix, expression_of}
+use Rattle.depends_expr.specs.Inside.Postfix.{postfix, expression_of}
 
 -- the name that was found, or none
 abbrev pub found : Option (List ℕ) → List ℕ

@@ -2,7 +2,9 @@
 use Rattle.std.specs.Prelude.{ℕ, zero, suc, List, [], ◌∷◌, ◌++◌, ◌-◌, length, Bool, true, false, ◌==◌, nat_lt, Option, Some, None, if◌then◌else◌, bytes_eq}
 use Rattle.std.specs.List.{list_any}
 use Rattle.depends_expr.specs.Expression.{Word, succeeded, failed, errored, skipped, omitted, daemoned, any_succeeded, all_failed, Expression, bare, has, negation, both, either}
-use Rattle.depends_expr.specs.Grammar.{Text, is_space, is_name_byte, spelling}
+use Rattle.base_types.specs.Bytes.{is_space, is_name_byte}
+use Rattle.base_types.specs.Limits.{most_levels, longest_name}
+use Rattle.depends_expr.specs.Grammar.{Text, spelling}
 
 -- ---- bytes
 
@@ -80,7 +82,7 @@ abbrev pub fresh : ℕ → Level
 fresh room = record { sum = None; product = None; begun = room; room = room }
 
 abbrev pub start : State
-start = wants (record { level = fresh 64; outer = [] })
+start = wants (record { level = fresh most_levels; outer = [] })
 
 -- ---- operands
 
@@ -146,7 +148,7 @@ abbrev pub on_operand : Kind → Expression → Level → List Level → Option 
 on_operand k e level outer = on_done k (joined e level) level.sum outer level.begun
 
 abbrev pub longer_name : Text → ℕ → Around → Option State
-longer_name name b a = if nat_lt (length name) 128 then Some (in_name (name ++ b ∷ []) a) else None
+longer_name name b a = if nat_lt (length name) longest_name then Some (in_name (name ++ b ∷ []) a) else None
 
 abbrev pub on_name : Kind → ℕ → Text → Around → Option State
 on_name letter b name a = longer_name name b a

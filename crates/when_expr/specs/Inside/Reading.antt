@@ -1,7 +1,9 @@
 -- The reading of a `when`, byte by byte: what is open after a text, or that no text of the grammar begins so.
-use Rattle.std.specs.Prelude.{ℕ, zero, suc, List, [], ◌∷◌, ◌++◌, ◌-◌, true, false, ◌==◌, Option, Some, None, if◌then◌else◌, codes, bytes_eq}
+use Rattle.std.specs.Prelude.{ℕ, zero, suc, List, [], ◌∷◌, ◌++◌, ◌-◌, true, false, ◌==◌, Option, Some, None, if◌then◌else◌, bytes_eq}
+use Rattle.base_types.specs.Limits.{most_levels}
 use Rattle.when_expr.specs.Expression.{Order, equal, unequal, below, at_most, above, at_least, Term, quoted, word, Condition, literal, test, negated, all_of, any_of}
-use Rattle.when_expr.specs.Symbols.{Text, Kind, letter, blank, quote, bang, opening, closing, ampersand, bar, equals, less, greater, kind}
+use Rattle.when_expr.specs.Grammar.{Text, spelling}
+use Rattle.when_expr.specs.Inside.Kinds.{Kind, letter, blank, quote, bang, opening, closing, ampersand, bar, equals, less, greater, kind}
 
 -- ---- what is open at a place
 
@@ -45,7 +47,7 @@ abbrev pub fresh : ℕ → Level
 fresh room = record { sum = None; product = None; begun = room; room = room }
 
 abbrev pub start : State
-start = wants (record { level = fresh 64; outer = [] })
+start = wants (record { level = fresh most_levels; outer = [] })
 
 -- ---- operands
 
@@ -116,8 +118,8 @@ on_operand k e a = on_done k (joined e a.level) a.level.sum a.outer a.level.begu
 
 abbrev pub literal_word : Text → Option Condition
 literal_word w =
-    if bytes_eq w (codes "true") then Some (literal true)
-    else (if bytes_eq w (codes "false") then Some (literal false) else None)
+    if bytes_eq w (spelling true) then Some (literal true)
+    else (if bytes_eq w (spelling false) then Some (literal false) else None)
 
 -- the literal that a term may be, where no order follows
 abbrev pub literal_of : Term → Option Condition

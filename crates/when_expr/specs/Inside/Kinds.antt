@@ -1,17 +1,8 @@
--- The bytes of the symbols of a `when`.
-use Rattle.std.specs.Prelude.{ℕ, List, Bool, true, false, ◌||◌, ◌==◌, if◌then◌else◌}
+-- What a byte is to the grammar of a `when`.
+use Rattle.std.specs.Prelude.{ℕ, Bool, true, false, ◌==◌, if◌then◌else◌}
+use Rattle.base_types.specs.Bytes.{is_space}
+use Rattle.when_expr.specs.Grammar.{is_quote}
 
-abbrev pub Text : Type 0
-Text = List ℕ
-
--- a space or a tab
-abbrev pub is_space : ℕ → Bool
-is_space b = (b == 32) || (b == 9)
-
-abbrev pub is_quote : ℕ → Bool
-is_quote b = (b == 39) || (b == 34)
-
--- what a byte is to the grammar
 pub data Kind : Type 0 where
   letter : Kind
   blank : Kind
@@ -43,8 +34,3 @@ kind b = if is_space b then blank else (if is_quote b then quote else sign_kind 
 abbrev pub is_letter : Kind → Bool
 is_letter letter = true
 is_letter _ = false
-
--- any byte but a space, a tab, `'`, `"`, `(`, `)`, `!`, `<`, `>`, `=`, `&` and `|`
--- (characters beyond ASCII are of such bytes)
-abbrev pub is_word_byte : ℕ → Bool
-is_word_byte b = is_letter (kind b)

@@ -12,9 +12,9 @@ use Rattle.when_expr.specs.declared.reading.Behind.{Behind as CodeBehind}
 use Rattle.when_expr.specs.declared.reading.State.{State as CodeState}
 use Rattle.when_expr.specs.declared.reading.State.TheVariants as s
 use Rattle.when_expr.specs.Expression.{Condition}
-use Rattle.when_expr.specs.Symbols.{Kind, letter, blank, quote, bang, opening, closing, ampersand, bar, equals, less, greater}
-use Rattle.when_expr.specs.Postfix.{term_of, order_of}
-use Rattle.when_expr.specs.Reading.{Level, Around, Mark, one_equals, one_bang, one_less, one_greater, Side, first, second, State, wants, in_quote, in_word, has_term, in_order, wants_term, done, half_and, half_or}
+use Rattle.when_expr.specs.Inside.Kinds.{Kind, letter, blank, quote, bang, opening, closing, ampersand, bar, equals, less, greater}
+use Rattle.when_expr.specs.Inside.Postfix.{term_of, order_of}
+use Rattle.when_expr.specs.Inside.Reading.{Level, Around, Mark, one_equals, one_bang, one_less, one_greater, Side, first, second, State, wants, in_quote, in_word, has_term, in_order, wants_term, done, half_and, half_or}
 
 abbrev pub kind_of : CodeKind → Kind
 kind_of k.Letter = letter

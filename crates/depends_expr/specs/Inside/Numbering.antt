@@ -4,7 +4,7 @@ use Rattle.std.specs.List.{list_all}
 use Rattle.depends_expr.specs.declared.steps.Step.{Step}
 use Rattle.depends_expr.specs.declared.steps.Step.TheVariants.{Bare, Has, Not, And, Or}
 use Rattle.depends_expr.specs.Truth.{add_names}
-use Rattle.depends_expr.specs.View.{with_name, is_position_below}
+use Rattle.depends_expr.specs.Inside.View.{with_name, is_position_below}
 
 -- the name of a step
 abbrev pub leaf : Step (List ℕ) → List (List ℕ)

@@ -1,0 +1,13 @@
+-- The condition of a `when`'s text, and the law that ties it to the grammar.
+use Rattle.std.specs.Prelude.{◌≡◌, ◌↔◌, Option, Some}
+use Rattle.when_expr.specs.Expression.{Condition}
+use Rattle.when_expr.specs.Grammar.{Text, IsWhen}
+use Rattle.when_expr.specs.Inside.Reading.{start, read}
+
+-- as reading finds it
+abbrev pub when_of : Text → Option Condition
+when_of text = read start text
+
+-- what reading finds is what the grammar says
+abbrev pub WhenSays : Type 0
+WhenSays = (text : Text) (c : Condition) → (when_of text ≡ Some c) ↔ IsWhen text c
