@@ -9,7 +9,7 @@ use Rattle.node_names.specs.declared.seg.Seg.TheVariants.{Exit, Group, Call, Ite
 use Rattle.base_types.specs.Bytes.{is_name_byte, is_name}
 use Rattle.base_types.proofs.Bytes.{name_parts}
 use Rattle.node_names.specs.Names.{is_no_parenthesis, IsSound}
-use Rattle.node_names.specs.Reading.{Stops, BeginsWith, BeginsWithNone}
+use Rattle.node_names.specs.Inside.Reading.{Stops, BeginsWith, BeginsWithNone}
 use Rattle.node_names.proofs.Bytes.{runs_agree, is_not, is_not_other, all_first, all_rest, all_more}
 use Rattle.node_names.proofs.Names.{closed, number_lacks, item_lacks, first_byte}
 

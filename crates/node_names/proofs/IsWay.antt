@@ -5,7 +5,7 @@ use Rattle.std.proofs.lemmas.List.{append-nil, append_cancel_left}
 use Rattle.node_names.specs.declared.seg.Seg.{Seg}
 use Rattle.node_names.specs.declared.seg.Seg.TheVariants.{Exit, Group, Call, Item, Attempt}
 use Rattle.node_names.specs.Names.{suffix, AreSound, IsWay}
-use Rattle.node_names.specs.Reading.{BeginsWith, BeginsWithNone}
+use Rattle.node_names.specs.Inside.Reading.{BeginsWith, BeginsWithNone}
 use Rattle.node_names.proofs.Names.{tail, name_is_tail, tail_ends, suffix_some, unsplit}
 
 -- a way and what is left of the suffixes: each way of these suffixes goes on from this one

@@ -1,6 +1,6 @@
+pub mod BeginsWithNone
 pub mod Bytes
+pub mod IsWay
 pub mod Names
-pub mod Fronts
-pub mod Missing
-pub mod Numbers
-pub mod Ways
+pub mod NumberOf
+pub mod Stops

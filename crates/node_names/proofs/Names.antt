@@ -10,7 +10,7 @@ use Rattle.node_names.specs.declared.seg.Seg.TheVariants.{Exit, Group, Call, Ite
 use Rattle.base_types.specs.Bytes.{is_name_byte}
 use Rattle.base_types.proofs.Bytes.{name_parts}
 use Rattle.node_names.specs.Names.{suffix, name_below, is_no_parenthesis, IsSound, AreSound}
-use Rattle.node_names.specs.Reading.{Stops, EndsBefore}
+use Rattle.node_names.specs.Inside.Reading.{Stops, EndsBefore}
 use Rattle.node_names.proofs.Bytes.{runs_agree, decimal_passes, is_not, is_not_same, is_not_other, all_more, all_first, all_rest}
 
 -- no number has this byte

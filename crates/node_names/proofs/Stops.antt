@@ -7,7 +7,7 @@ use Rattle.std.proofs.lemmas.Bool.Decides.{nat_tests}
 use Rattle.std.proofs.lemmas.List.Sums.{prefix_len-le-length, prefix_len_passes}
 use Rattle.std.proofs.lemmas.Str.{IsCharBoundary-start, IsCharBoundary-after_ascii}
 use Rattle.base_types.specs.Bytes.{is_name_byte}
-use Rattle.node_names.specs.Reading.{Stops}
+use Rattle.node_names.specs.Inside.Reading.{Stops}
 
 module _ (p : ℕ → Bool) where
   -- the bytes of a longest run pass

@@ -1,2 +1,3 @@
+pub mod Inside
 pub mod Names
-pub mod Reading
+pub use Rattle.base_types.specs.Bytes

@@ -5,8 +5,6 @@ mod law;
 mod naming;
 mod reading;
 mod seg;
-#[cfg(test)]
-mod tests;
 
 pub use law::distinct_names;
 pub use naming::{child_name, is_step_name};

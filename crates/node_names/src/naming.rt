@@ -1,8 +1,8 @@
 //! The name of a node below another.
 
 ghost use Rattle.std.specs.Prelude.{◌≡◌, ◌++◌, IfOk};
-ghost use Rattle.node_names.specs.Names.{suffix, IsSound};
 ghost use Rattle.node_names.specs.Names as names;
+ghost use Rattle.node_names.specs.Names.{suffix, IsSound};
 
 use crate::Seg;
 use base_types::{Memory, Text, is_name};

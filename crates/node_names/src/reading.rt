@@ -4,7 +4,7 @@ ghost use Rattle.std.specs.Prelude.{◌≡◌, ◌≢◌, ℕ, ◌^◌, ◌<◌,
 ghost use Rattle.std.specs.List.{list_all, prefix_len};
 ghost use Rattle.base_types.specs.Bytes.{is_name_byte};
 ghost use Rattle.node_names.specs.Names.{IsWay};
-ghost use Rattle.node_names.specs.Reading.{Stops, BeginsWith, BeginsWithNone};
+ghost use Rattle.node_names.specs.Inside.Reading.{Stops, BeginsWith, BeginsWithNone};
 
 use crate::{Seg, Segs};
 use base_types::{Memory, Text, is_name, is_name_byte};

@@ -3,7 +3,7 @@
 use base_types::{List, Memory, Text, TryCopy};
 
 /// Which node below another one.
-#[derive(Drop)]
+#[derive(Debug, Drop)]
 pub enum Seg {
     /// The exit handler of a workflow, or the exit hook of a step or task.
     Exit,

@@ -1,2 +1,2 @@
-pub mod Lookups
-pub mod Saying
+pub mod Said
+pub mod ValueIn

@@ -1,13 +1,13 @@
 -- What is said, part by part.
-use Rattle.std.proofs.Common.{◌≡◌, ℕ, ◌+◌, ◌≤◌, List, [], ◌∷◌, ◌++◌, length, drop, Option, Some, None, Result, Ok, Err, refl, sym, ap, ◌∙◌, append_assoc, arith}
+use Rattle.std.proofs.Common.{◌≡◌, ℕ, ◌+◌, ◌≤◌, List, [], ◌∷◌, ◌++◌, length, drop, Some, Ok, Err, refl, sym, ap, ◌∙◌, append_assoc}
 use Rattle.std.specs.Prelude.{slice_get}
 use Rattle.std.proofs.lemmas.List.{append-nil, drop_all}
 use Rattle.tree_types.specs.declared.node.Note.{Note}
 use Rattle.tag_text.specs.declared.part.Part.{Part}
 use Rattle.tag_text.specs.declared.part.Part.TheVariants.{Plain, Tag}
-use Rattle.scopes.specs.Substitution.{Found, ◌>>=◌, Scope, value_in, found_value, tag_value, part_said, said}
+use Rattle.scopes.specs.Substitution.{Found, ◌>>=◌, Scope, found_value, part_said, said}
 use Rattle.scopes.specs.Values.{HasValuesOf}
-use Rattle.scopes.proofs.Lookups.{drop_place}
+use Rattle.scopes.proofs.ValueIn.{drop_place}
 
 -- what was said before, and what is said still
 abbrev pub onto : List ℕ → Found (List ℕ) → Found (List ℕ)

@@ -1,5 +1,5 @@
 -- Values in scopes, as a map keeps them.
-use Rattle.std.proofs.Common.{◌≡◌, ◌≢◌, ◌⊎◌, ℕ, zero, suc, ◌+◌, ◌<◌, ◌≤◌, Bool, true, false, cond, List, [], ◌∷◌, ◌++◌, length, drop, Option, Some, None, MatchOption, String, string_bytes, Bor, refl, sym, ap, subst, ◌∙◌, inl, inr, arith}
+use Rattle.std.proofs.Common.{◌≡◌, ℕ, zero, suc, ◌+◌, Bool, true, false, cond, List, [], ◌∷◌, ◌++◌, drop, Option, Some, None, MatchOption, String, string_bytes, Bor, refl, sym, ap, ◌∙◌, inl, inr, arith}
 use Rattle.std.specs.Prelude.{bytes_eq, codes, slice_get, if◌then◌else◌}
 use Rattle.std.specs.Option.{option_copied}
 use Rattle.std.specs.Map.{lookup}
@@ -9,7 +9,7 @@ use Rattle.std.proofs.lemmas.List.{append-nil}
 use Rattle.std.proofs.lemmas.Slice.Eq.{bytes_eq-Decides}
 use Rattle.indexmap.specs.IndexMap.{insert_entry}
 use Rattle.tree_types.specs.declared.outcome.Param.{Param}
-use Rattle.scopes.specs.Entries.{shown}
+use Rattle.scopes.specs.Inside.Entries.{shown}
 use Rattle.scopes.specs.Substitution.{Scope, value_in, parameter_tags, workflow_tags, input_tags}
 use Rattle.scopes.specs.Values.{HasValuesOf}
 
@@ -106,10 +106,10 @@ given_more prefix params left param tag value old new before at tag_is value_is 
 
 -- a new scope, made step by step
 pub made : (workflow name value : List ℕ) (params inputs : List Param) (first second third none : Scope) → none ≡ [] → HasValuesOf first (parameter_tags (codes "workflow.parameters.") params ++ none)
-    → name ≡ codes "workflow.name" → value ≡ workflow → HasValuesOf second ((name, value) ∷ first) → HasValuesOf third (parameter_tags (codes "inputs.parameters.") inputs ++ second)
+    → name ≡ codes "workflow.name" → value ≡ workflow → HasValuesOf second ((name, value) ∷ first) → HasValuesOf third (input_tags inputs ++ second)
     → HasValuesOf third (input_tags inputs ++ workflow_tags workflow params)
 made workflow name value params inputs first second third none empty one name_is value_is two three q =
-    let front = parameter_tags (codes "inputs.parameters.") inputs in
+    let front = input_tags inputs in
     let rest = parameter_tags (codes "workflow.parameters.") params in
     let first_is : rest ++ none ≡ rest = ap (λ (s : Scope). rest ++ s) empty ∙ append-nil rest in
     three q

@@ -7,5 +7,6 @@ ghost use Rattle.scopes.specs.Values.{HasValuesOf};
 
 /// In scopes that give each tag one value a text says the same.
 pub fn same_values()
-    ensures { (scope other : Scope) (text : List Part) → HasValuesOf scope other → said scope text ≡ said other text }
+    ensures { (scope other : Scope) (text : List Part) → HasValuesOf scope other →
+        said scope text ≡ said other text }
 {}

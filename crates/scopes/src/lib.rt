@@ -5,8 +5,6 @@ mod law;
 mod refused;
 mod scope;
 mod substituting;
-#[cfg(test)]
-mod tests;
 
 pub use law::same_values;
 pub use refused::SubstRefused;

@@ -4,23 +4,16 @@ ghost use Rattle.std.specs.Prelude.{◌≡◌};
 ghost use Rattle.scopes.specs.declared.refused.SubstRefused.TheVariants as refused;
 
 use base_types::{Memory, Text};
-use std::fmt;
 use thiserror::Error;
 
 /// Why a text with tags says nothing in a scope.
-#[derive(Drop, Error)]
+#[derive(Debug, Drop, Error)]
 pub enum SubstRefused {
     /// The leftmost tag without a value.
     #[error("the tag {tag} has no value")]
     Unresolved { tag: Text },
     #[error("out of memory")]
     Memory,
-}
-
-impl fmt::Debug for SubstRefused {
-    fn fmt<W: fmt::Write>(&self, f: &mut fmt::Formatter<W>) -> fmt::Result {
-        fmt::Display::fmt(self, f)
-    }
 }
 
 impl From<Memory> for SubstRefused {

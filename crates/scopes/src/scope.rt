@@ -7,7 +7,7 @@ use std::marker::Model;
 use tree_types::Params;
 
 /// The values of tags, which contracts see as a list of tags and values, of which the first of a tag counts.
-#[derive(Drop)]
+#[derive(Debug, Drop)]
 pub struct Scope {
     alloc: Global,
     tags: IndexMap<String, Text>,
@@ -18,7 +18,7 @@ impl Model for Scope {
 
     ghost Value = { List (List ℕ × List ℕ) };
 
-    ghost use Rattle.scopes.specs.Entries.{shown};
+    ghost use Rattle.scopes.specs.Inside.Entries.{shown};
 
     ghost view = { λ scope. shown scope.tags.entries };
 }

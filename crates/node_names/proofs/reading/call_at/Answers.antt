@@ -1,7 +1,7 @@
 use Rattle.std.proofs.Common.{◌≡◌, true, false, sym, ◌∙◌}
 use Rattle.std.specs.Prelude.{codes}
 use Rattle.std.proofs.lemmas.Slice.Eq.{bytes_eq-Decides}
-use Rattle.node_names.proofs.Missing.{no_name}
+use Rattle.node_names.proofs.BeginsWithNone.{no_name}
 use Rattle.node_names.proofs.reading.call_at.Goals as goal
 
 pub returns-then-not-is_name : goal.returns-then-not-is_name

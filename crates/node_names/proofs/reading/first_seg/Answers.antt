@@ -1,6 +1,6 @@
 use Rattle.std.proofs.Common.{None, arith}
 use Rattle.std.proofs.lemmas.Str.Pattern.{strip_prefix_char}
-use Rattle.node_names.proofs.Missing.{no_mark}
+use Rattle.node_names.proofs.BeginsWithNone.{no_mark}
 use Rattle.node_names.proofs.reading.first_seg.Goals as goal
 
 pub returns : goal.returns

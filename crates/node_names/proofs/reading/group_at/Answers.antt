@@ -1,6 +1,6 @@
 use Rattle.std.proofs.Common.{Some, None, arith}
 use Rattle.std.proofs.lemmas.Str.Pattern.{split_parts}
-use Rattle.node_names.proofs.Missing.{no_bracket, no_number}
+use Rattle.node_names.proofs.BeginsWithNone.{no_bracket, no_number}
 use Rattle.node_names.proofs.reading.group_at.Goals as goal
 
 pub returns-in_default : goal.returns-in_default

@@ -1,8 +1,8 @@
 use Rattle.std.proofs.Common.{Some, None, List, ℕ, ◌∷◌, sym, subst, arith}
 use Rattle.std.proofs.lemmas.Str.Pattern.{split_parts, contains_char}
 use Rattle.node_names.specs.declared.seg.Seg.TheVariants.{Item}
-use Rattle.node_names.specs.Reading.{BeginsWith}
-use Rattle.node_names.proofs.Missing.{no_parenthesis, attempt_found, no_item_text, no_item_number, begins_item}
+use Rattle.node_names.specs.Inside.Reading.{BeginsWith}
+use Rattle.node_names.proofs.BeginsWithNone.{no_parenthesis, attempt_found, no_item_text, no_item_number, begins_item}
 use Rattle.node_names.proofs.reading.item_at.Goals as goal
 
 pub returns-in_default : goal.returns-in_default

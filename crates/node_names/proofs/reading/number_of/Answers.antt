@@ -1,6 +1,6 @@
 use Rattle.std.proofs.Common.{get_or, length, ap, sym, ◌∙◌}
 use Rattle.std.proofs.lemmas.Bool.{eqb-true}
-use Rattle.node_names.proofs.Numbers.{number_found, empty_is_none, plus_is_none, zeros_are_none, one_zero}
+use Rattle.node_names.proofs.NumberOf.{number_found, empty_is_none, plus_is_none, zeros_are_none, one_zero}
 use Rattle.node_names.proofs.reading.number_of.Goals as goal
 
 pub returns-then-is_empty : goal.returns-then-is_empty

@@ -3,7 +3,7 @@ use Rattle.std.proofs.lemmas.Bool.{eqb-true, eqb-false}
 use Rattle.std.proofs.lemmas.List.{nil_from_length}
 use Rattle.node_names.specs.declared.seg.Seg.{Seg}
 use Rattle.std.specs.Str.Pattern.{LacksTextAt}
-use Rattle.node_names.proofs.Ways.{IsReadTo, at_start, step, stuck, at_end, no_root, shorter, stripped}
+use Rattle.node_names.proofs.IsWay.{IsReadTo, at_start, step, stuck, at_end, no_root, shorter, stripped}
 use Rattle.node_names.proofs.reading.segs_of.Goals as goal
 
 pub returns-in_default : goal.returns-in_default

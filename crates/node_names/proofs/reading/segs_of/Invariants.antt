@@ -1,7 +1,7 @@
 use Rattle.std.proofs.Common.{length}
 use denote.Text.{Utf8}
 use denote.Shadow.{shadow}
-use Rattle.node_names.proofs.Ways.{IsReadTo}
+use Rattle.node_names.proofs.IsWay.{IsReadTo}
 use Rattle.node_names.proofs.reading.segs_of.Given as goal
 
 -- the suffixes so far are those of the way

@@ -2,8 +2,8 @@ use Rattle.std.proofs.Common.{subst, sym, ◌∙◌, ap, take, drop}
 use Rattle.std.specs.List.{list_all, prefix_len}
 use Rattle.std.specs.Str.{IsCharBoundary}
 use Rattle.base_types.specs.Bytes.{is_name_byte}
-use Rattle.node_names.specs.Reading.{Stops}
-use Rattle.node_names.proofs.Fronts.{run_passes, run_stops, run_ends}
+use Rattle.node_names.specs.Inside.Reading.{Stops}
+use Rattle.node_names.proofs.Stops.{run_passes, run_stops, run_ends}
 use Rattle.node_names.proofs.reading.split_name.Goals as goal
 
 pub split_at-requires : goal.split_at-requires

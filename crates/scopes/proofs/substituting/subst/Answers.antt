@@ -1,8 +1,8 @@
-use Rattle.std.proofs.Common.{◌≡◌, ◌∙◌, ◌+◌, List, ℕ, Err, drop, ap, sym, subst}
+use Rattle.std.proofs.Common.{◌∙◌, ◌+◌, List, ℕ, Err, drop, ap, sym}
 use Rattle.tree_types.specs.declared.node.Note.TheVariants as note
 use Rattle.tag_text.specs.Pieces.{part_of}
 use Rattle.scopes.specs.Substitution.{said}
-use Rattle.scopes.proofs.Saying.{onto, says_more, says_not}
+use Rattle.scopes.proofs.Said.{onto, says_more, says_not}
 use Rattle.scopes.proofs.substituting.subst.Goals as goal
 
 pub returns-in-Err : goal.returns-in-Err

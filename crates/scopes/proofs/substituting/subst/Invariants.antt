@@ -1,6 +1,6 @@
 use Rattle.std.proofs.Common.{◌≡◌, drop}
 use Rattle.scopes.specs.Substitution.{said}
-use Rattle.scopes.proofs.Saying.{onto}
+use Rattle.scopes.proofs.Said.{onto}
 use Rattle.scopes.proofs.substituting.subst.Given as goal
 
 -- what was said, and what is said of the rest, is what is said of the whole

@@ -1,7 +1,7 @@
 use Rattle.std.proofs.Common.{◌∙◌, ◌∷◌, ap, refl}
-use Rattle.scopes.specs.Entries.{shown}
+use Rattle.scopes.specs.Inside.Entries.{shown}
 use Rattle.scopes.specs.Substitution.{value_in}
-use Rattle.scopes.proofs.Lookups.{inserted}
+use Rattle.scopes.proofs.ValueIn.{inserted}
 use Rattle.scopes.proofs.scope.Scope.add.Goals as goal
 
 pub returns-clause-ok : goal.returns-clause-ok

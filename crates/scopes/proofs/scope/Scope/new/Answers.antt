@@ -1,6 +1,6 @@
 use Rattle.std.proofs.Common.{ap}
-use Rattle.scopes.specs.Entries.{shown}
-use Rattle.scopes.proofs.Lookups.{made}
+use Rattle.scopes.specs.Inside.Entries.{shown}
+use Rattle.scopes.proofs.ValueIn.{made}
 use Rattle.scopes.proofs.scope.Scope.new.Goals as goal
 
 pub returns : goal.returns

@@ -1,4 +1,4 @@
-use Rattle.scopes.proofs.Lookups.{value_found}
+use Rattle.scopes.proofs.ValueIn.{value_found}
 use Rattle.scopes.proofs.scope.Scope.value_of.Goals as goal
 
 pub returns : goal.returns
