@@ -10,10 +10,9 @@ use base_types::List;
 use base_types::limits::MOST_MEMBERS;
 use field_kinds::rules::MISSING;
 use field_kinds::{
-    Fields, KindRefused, Object, UpTo, no_second, only, optional_object, refused_at, required,
-    required_text,
+    FieldPath, Fields, KindRefused, Object, UpTo, no_second, only, optional_object, refused_at,
+    required, required_text,
 };
-use json_fields::FieldPath;
 use serde_json::Value;
 use std::alloc::Global;
 use wf_manifest::{Body, Call, Template};

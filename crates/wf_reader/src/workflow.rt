@@ -10,9 +10,9 @@ use crate::templates::TemplateFields;
 use base_types::limits::MOST_MEMBERS;
 use base_types::{List, Memory, Text};
 use field_kinds::{
-    Fields, KindRefused, Object, Readable, UpTo, only, required, required_text, required_text_by,
+    FieldPath, Fields, KindRefused, Object, Readable, UpTo, only, required, required_text,
+    required_text_by,
 };
-use json_fields::FieldPath;
 use serde_json::Value;
 use std::alloc::Global;
 use wf_manifest::{Manifest, Templates};
