@@ -1,5 +1,6 @@
 -- The fields of the object at a path. A field that is null counts as absent, as in the Kubernetes API.
-use Rattle.std.specs.Prelude.{ℕ, List, [], ◌∷◌, Bool, true, false, not, ◌&&◌, bytes_eq, if◌then◌else◌, Option, Some, None, Ok, Err}
+use Rattle.std.specs.Prelude.{ℕ, List, [], ◌∷◌, Option, Some, None, Ok, Err}
+use Rattle.std.specs.Prelude.{Bool, true, false, not, ◌&&◌, bytes_eq, if◌then◌else◌}
 use Rattle.serde_json.specs.Data.{Data, null, boolean, object, Members, no_members, member}
 use Rattle.serde_json.specs.Find.{get}
 use Rattle.base_types.specs.Names.{is_among}

@@ -1,5 +1,6 @@
 -- The kinds of values. The JSON types are those of the field reference; the refusals are this project's own.
-use Rattle.std.specs.Prelude.{ℕ, suc, ℤ, pos, negsuc, int_lt, List, [], ◌∷◌, Bool, ◌||◌, if◌then◌else◌, nat_lt, Option, Some, None, Ok, option_and_then}
+use Rattle.std.specs.Prelude.{ℕ, suc, nat_lt, ℤ, pos, negsuc, int_lt, Bool, ◌||◌, if◌then◌else◌}
+use Rattle.std.specs.Prelude.{List, [], ◌∷◌, Option, Some, None, Ok, option_and_then}
 use Rattle.serde_json.specs.Data.{Data, array, object, Items, no_items, item}
 use Rattle.serde_json.specs.Events.{items_len}
 use Rattle.json_fields.specs.Paths.{Path, member_of}

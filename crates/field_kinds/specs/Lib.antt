@@ -4,3 +4,6 @@ pub mod Maps
 pub mod Reading
 pub mod Refusing
 pub mod Rules
+pub use Rattle.base_types.specs.Names
+pub use Rattle.json_fields.specs.Paths
+pub use Rattle.json_fields.specs.declared.refused.FieldRefused

@@ -59,7 +59,8 @@ pub fn optional_list<T: Readable>(
     at: &FieldPath,
     around: &T::Around,
 ) -> Result<Option<List<T::Made>>, KindRefused>
-    ensures { Reads result (optional (list_of most (T.kind around.now)) name.now at.now (view object.now)) }
+    ensures { Reads result
+        (optional (list_of most (T.kind around.now)) name.now at.now (view object.now)) }
 {
     match object.get(name) {
         None | Some(Value::Null) => Ok(None),
@@ -76,7 +77,8 @@ pub fn list_or_empty<T: Readable>(
     at: &FieldPath,
     around: &T::Around,
 ) -> Result<List<T::Made>, KindRefused>
-    ensures { Reads result (default_list most (T.kind around.now) name.now at.now (view object.now)) }
+    ensures { Reads result
+        (default_list most (T.kind around.now) name.now at.now (view object.now)) }
 {
     match object.get(name) {
         None | Some(Value::Null) => Ok(List::new(alloc)),
@@ -93,7 +95,8 @@ pub fn required_list<T: Readable>(
     at: &FieldPath,
     around: &T::Around,
 ) -> Result<List<T::Made>, KindRefused>
-    ensures { Reads result (required (list_of most (T.kind around.now)) name.now at.now (view object.now)) }
+    ensures { Reads result
+        (required (list_of most (T.kind around.now)) name.now at.now (view object.now)) }
 {
     let path = at.field(name)?;
     match object.get(name) {
@@ -113,7 +116,8 @@ pub fn all_or_empty<T: Readable>(
     at: &FieldPath,
     around: &T::Around,
 ) -> Result<List<T::Made>, KindRefused>
-    ensures { Reads result (default [] (all_of (T.kind around.now)) name.now at.now (view object.now)) }
+    ensures { Reads result
+        (default [] (all_of (T.kind around.now)) name.now at.now (view object.now)) }
 {
     match object.get(name) {
         None | Some(Value::Null) => Ok(List::new(alloc)),

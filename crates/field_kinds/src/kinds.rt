@@ -49,7 +49,7 @@ impl Readable for AnyText {
     }
 }
 
-/// What the text at a path means by a grammar.
+// What the text at a path means by a grammar.
 pub(crate) fn meaning_of<G: Grammar>(
     alloc: Global,
     text: &Text,

@@ -18,6 +18,7 @@ pub use fields::{
     all_or_empty, list_or_empty, optional, optional_json_list, optional_list, optional_object,
     required, required_list,
 };
+pub use json_fields::FieldPath;
 pub use kinds::{AnyText, AnyTextBy, Object, TextBy, UpTo};
 pub use maps::map_of;
 pub use numbers::{flag_or, number_or, optional_number, optional_whole, required_number, whole_or};

@@ -54,7 +54,8 @@ fn present_entry<T: Keyed>(
     at: &FieldPath,
     around: &T::Around,
 ) -> Result<Option<T::Made>, KindRefused>
-    ensures { Reads result (present (T.entry around.now key.now) (field_of at.now key.now) (Some (view value.now))) }
+    ensures { Reads result
+        (present (T.entry around.now key.now) (field_of at.now key.now) (Some (view value.now))) }
 {
     match value {
         Value::Null => Ok(None),

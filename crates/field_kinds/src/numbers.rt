@@ -33,7 +33,8 @@ pub fn optional_whole(
     at: &FieldPath,
 ) -> Result<Option<i64>, KindRefused>
     ensures read { Reads result (optional (whole_in low high) name.now at.now (view object.now)) }
-    ensures within { IfOk result (λ taken. IfSome taken (λ whole. (low ≤ℤ whole) × (whole ≤ℤ high))) }
+    ensures within { IfOk result
+        (λ taken. IfSome taken (λ whole. (low ≤ℤ whole) × (whole ≤ℤ high))) }
 {
     match take_whole(object, name, at)? {
         None => Ok(None),
@@ -65,7 +66,8 @@ pub fn whole_or(
     at: &FieldPath,
 ) -> Result<i64, KindRefused>
     requires { (low ≤ℤ otherwise) × (otherwise ≤ℤ high) }
-    ensures read { Reads result (default otherwise (whole_in low high) name.now at.now (view object.now)) }
+    ensures read { Reads result
+        (default otherwise (whole_in low high) name.now at.now (view object.now)) }
     ensures within { IfOk result (λ whole. (low ≤ℤ whole) × (whole ≤ℤ high)) }
 {
     Ok(optional_whole(object, name, low, high, at)?.unwrap_or(otherwise))
@@ -80,7 +82,8 @@ pub fn optional_number(
     at: &FieldPath,
 ) -> Result<Option<u64>, KindRefused>
     ensures read { Reads result (optional (number_in low high) name.now at.now (view object.now)) }
-    ensures within { IfOk result (λ taken. IfSome taken (λ number. (low ≤ number) × (number ≤ high))) }
+    ensures within { IfOk result
+        (λ taken. IfSome taken (λ number. (low ≤ number) × (number ≤ high))) }
 {
     match take_whole(object, name, at)? {
         None => Ok(None),
@@ -113,7 +116,8 @@ pub fn number_or(
     at: &FieldPath,
 ) -> Result<u64, KindRefused>
     requires { (low ≤ otherwise) × (otherwise ≤ high) }
-    ensures read { Reads result (default otherwise (number_in low high) name.now at.now (view object.now)) }
+    ensures read { Reads result
+        (default otherwise (number_in low high) name.now at.now (view object.now)) }
     ensures within { IfOk result (λ number. (low ≤ number) × (number ≤ high)) }
 {
     Ok(optional_number(object, name, low, high, at)?.unwrap_or(otherwise))

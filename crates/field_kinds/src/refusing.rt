@@ -15,7 +15,8 @@ use serde_json::{Map, Value};
 
 /// Refuses these fields, the first of them first.
 pub fn refuse_all(object: &Value, names: &[&str], at: &FieldPath) -> Result<(), KindRefused>
-    ensures { Reads result (fields.refused_all (map (λ name. name.now) names.now) at.now (view object.now)) }
+    ensures { Reads result
+        (fields.refused_all (map (λ name. name.now) names.now) at.now (view object.now)) }
 {
     for i in 0..names.len() {
         refuse(object, names[i], at)?;
@@ -81,7 +82,8 @@ fn refuse_member(key: &str, value: &Value, but: &str, at: &FieldPath) -> Result<
 
 /// Refuses the first member of an object that is there and has none of these names, in the order of the keys.
 pub fn only(object: &Value, names: &[&str], at: &FieldPath) -> Result<(), KindRefused>
-    ensures { Reads result (fields.only (map (λ name. name.now) names.now) at.now (view object.now)) }
+    ensures { Reads result
+        (fields.only (map (λ name. name.now) names.now) at.now (view object.now)) }
 {
     match object {
         Value::Object(map) => only_members(map, names, at),
@@ -95,7 +97,8 @@ fn only_members(
     at: &FieldPath,
 ) -> Result<(), KindRefused>
     ensures { Reads result
-        (fields.only_members (map (λ name. name.now) names.now) at.now (members_view members.now.entries)) }
+        (fields.only_members (map (λ name. name.now) names.now) at.now
+        (members_view members.now.entries)) }
 {
     for (key, value) in members.iter() {
         only_member(key.as_str(), value, names, at)?;

@@ -186,7 +186,8 @@ pub fn text_by_if<G: Grammar>(
     name: &str,
     at: &FieldPath,
 ) -> Result<Option<G::Meaning>, KindRefused>
-    ensures { Reads result (required_if asked (of G.meaning text) name.now at.now (view object.now)) }
+    ensures { Reads result
+        (required_if asked (of G.meaning text) name.now at.now (view object.now)) }
 {
     if asked {
         Ok(Some(required_text_by::<G>(alloc, object, name, at)?))

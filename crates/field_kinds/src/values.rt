@@ -27,9 +27,10 @@ pub fn needs_object(value: &Value, at: &FieldPath) -> Result<(), KindRefused>
     }
 }
 
-/// The list that a value is, of any length.
+// The list that a value is, of any length.
 fn any_list<'a>(value: &'a Value, at: &FieldPath) -> Result<&'a [Value], KindRefused>
-    ensures { Shows (λ list. items_view list.now) result (or_wrong at.now (is.list (view value.entry.now))) }
+    ensures { Shows (λ list. items_view list.now) result
+        (or_wrong at.now (is.list (view value.entry.now))) }
 {
     match value {
         Value::Array(items) => Ok(items.as_slice()),
@@ -43,7 +44,8 @@ pub fn needs_list<'a>(
     most: usize,
     at: &FieldPath,
 ) -> Result<&'a [Value], KindRefused>
-    ensures list { Shows (λ list. items_view list.now) result (needs_list most at.now (view value.entry.now)) }
+    ensures list { Shows (λ list. items_view list.now) result
+        (needs_list most at.now (view value.entry.now)) }
     ensures few { IfOk result (λ list. length list.now ≤ most) }
 {
     match value {

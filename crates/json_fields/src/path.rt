@@ -8,8 +8,8 @@ use std::alloc::Global;
 use std::fmt;
 use std::marker::Model;
 
-/// The place of a field, as in `spec.templates[0].name`. Contracts see it as these bytes. The path of the whole document
-/// is empty, and is printed as `.`. Keys of maps stand in it as they are.
+/// The place of a field, as in `spec.templates[0].name`. Contracts see it as these bytes. The path of the whole
+/// document is empty, and is printed as `.`. Keys of maps stand in it as they are.
 #[derive(Drop)]
 pub struct FieldPath {
     text: Text,

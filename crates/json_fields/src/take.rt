@@ -34,7 +34,8 @@ pub fn take_any_text(
     name: &str,
     at: &FieldPath,
 ) -> Result<Option<FieldText>, FieldRefused>
-    ensures { Gives (λ taken. taken) result (field kinds.any_text name.now at.now (view object.now)) }
+    ensures { Gives (λ taken. taken) result
+        (field kinds.any_text name.now at.now (view object.now)) }
 {
     match object.get(name) {
         None | Some(Value::Null) => Ok(None),
@@ -96,7 +97,8 @@ pub fn take_list<'a>(
     name: &str,
     at: &FieldPath,
 ) -> Result<Option<&'a [Value]>, FieldRefused>
-    ensures { Gives (option_map (λ list. items_view list.now)) result (field kinds.list name.now at.now (view object.entry.now)) }
+    ensures { Gives (option_map (λ list. items_view list.now)) result
+        (field kinds.list name.now at.now (view object.entry.now)) }
 {
     match object.get(name) {
         None | Some(Value::Null) => Ok(None),
@@ -111,7 +113,8 @@ pub fn take_object<'a>(
     name: &str,
     at: &FieldPath,
 ) -> Result<Option<&'a Value>, FieldRefused>
-    ensures { Gives (option_map (λ value. view value.now)) result (field kinds.object_ name.now at.now (view object.entry.now)) }
+    ensures { Gives (option_map (λ value. view value.now)) result
+        (field kinds.object_ name.now at.now (view object.entry.now)) }
 {
     match object.get(name) {
         None | Some(Value::Null) => Ok(None),

@@ -1,3 +1,5 @@
-pub mod Members
 pub mod Names
 pub mod Workflows
+pub use Rattle.field_kinds.specs.Reading
+pub use Rattle.field_kinds.specs.Refusing
+pub use Rattle.wf_manifest.specs.declared.manifest.Manifest
