@@ -79,12 +79,27 @@ planned name =
     if bytes_eq name (codes "w[0].a") then Some succeeded
     else if bytes_eq name (codes "w[1].b") then Some failed else None
 
+-- the first pod succeeds, and all others fail
+abbrev failing : List ℕ → Option Outcome
+failing name = if bytes_eq name (codes "w[0].a") then Some succeeded else Some failed
+
+abbrev two_groups : Manifest
+two_groups = workflow (codes "w") (body.Steps ((call (codes "a") ∷ []) ∷ (call (codes "b") ∷ call (codes "c") ∷ []) ∷ []))
+
+-- each pod has the outcome that is planned for its name
+pub of_a_default : map node_line (plain two_groups failing)
+    ≡ codes "  Failed Steps w"
+    ∷ codes "    Succeeded StepGroup w[0]"
+    ∷ codes "      Succeeded Pod w[0].a"
+    ∷ codes "    Failed StepGroup w[1]"
+    ∷ codes "      Failed Pod w[1].b"
+    ∷ codes "      Failed Pod w[1].c"
+    ∷ []
+unfolding digits
+of_a_default = refl
+
 -- the workflow is started; a pod for which nothing is planned runs
-pub of_planned_outcomes : map node_line
-    (plain
-    (workflow (codes "w")
-    (body.Steps ((call (codes "a") ∷ []) ∷ (call (codes "b") ∷ call (codes "c") ∷ []) ∷ [])))
-    planned)
+pub of_planned_outcomes : map node_line (plain two_groups planned)
     ≡ codes "  Running Steps w"
     ∷ codes "    Succeeded StepGroup w[0]"
     ∷ codes "      Succeeded Pod w[0].a"
