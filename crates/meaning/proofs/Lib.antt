@@ -16,3 +16,4 @@ pub mod RowsOutputs
 pub mod RowsValues
 pub mod Flattening
 pub mod RowsParts
+pub mod RowsPlain

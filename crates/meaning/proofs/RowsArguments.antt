@@ -145,6 +145,21 @@ pub a_default_that_is_not_taken : printed (behind_a (call_echo (codes "b") (code
 unfolding digits
 a_default_that_is_not_taken = refl
 
+-- ---- a condition is asked before the arguments are substituted
+
+-- the condition is false, so the unresolved argument is not looked at
+pub a_condition_before_arguments : printed
+    (one_step (codes "w")
+    (record (call_echo (codes "a") (codes "{{workflow.status}}")) { when = Some (parts_of (codes "1 == 2")) }) (echo ∷ []))
+    (Started ∷ [])
+    ≡ codes "workflow w Succeeded"
+    ∷ codes "  Succeeded Steps w"
+    ∷ codes "    Succeeded StepGroup w[0]"
+    ∷ codes "      Skipped Skipped w[0].a -- when is false"
+    ∷ []
+unfolding digits
+a_condition_before_arguments = refl
+
 -- ---- one pass of substitution
 
 -- a's result is put in as it stands, though it looks like a tag

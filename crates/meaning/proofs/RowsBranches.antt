@@ -13,7 +13,7 @@ use Rattle.wf_manifest.specs.declared.calls.Call.{Call}
 use Rattle.wf_manifest.specs.declared.calls.Task.{Task}
 use Rattle.wf_manifest.specs.declared.templates.Body.TheVariants as body
 use Rattle.wf_manifest.specs.declared.manifest.Manifest.{Manifest}
-use Rattle.meaning.proofs.Samples.{workflow, call, call_each, over, task, task_if, task_after, dag_workflow, succeeded, failed, errored, settled, printed}
+use Rattle.meaning.proofs.Samples.{workflow, call, call_echo, echo, call_each, over, param, task, task_if, task_after, dag_workflow, succeeded, failed, errored, settled, printed, params_at}
 
 abbrev ended : ℕ → Outcome → Fact
 ended i o = settled (task_sel i ∷ []) o
@@ -203,6 +203,25 @@ pub a_covered_target : printed (dag_workflow (codes "o") (covering (codes "A") �
     ≡ codes "workflow o Succeeded" ∷ codes "  Succeeded DAG o" ∷ codes "    Failed Pod o.A" ∷ []
 unfolding digits
 a_covered_target = refl
+
+-- ---- the tags that a task sees
+
+-- B waits for A, and C for B alone: C gives echo what both said
+abbrev telling : Manifest
+telling =
+    dag_workflow (codes "g")
+    (task (call (codes "A")) ∷ task_after (codes "B") (codes "A" ∷ [])
+    ∷ record (task (call_echo (codes "C") (codes "{{tasks.A.outputs.result}} {{tasks.B.status}}"))) {
+      dependencies = Some (codes "B" ∷ []);
+    } ∷ [])
+    (echo ∷ [])
+
+-- those of the tasks that it depends on, directly or not
+pub tags_of_ancestors : params_at (codes "g.C") telling
+    (Started ∷ ended 0 (record succeeded { result = Some (codes "r") }) ∷ ended 1 succeeded ∷ [])
+    ≡ param (codes "x") (codes "r Succeeded") ∷ []
+unfolding digits
+tags_of_ancestors = refl
 
 -- ---- a task that is omitted behind a failure
 

@@ -13,7 +13,7 @@ use Rattle.wf_manifest.specs.declared.manifest.Manifest.{Manifest}
 use Rattle.meaning.specs.Answers.{path, MemoAnswer}
 use Rattle.meaning.specs.Lines.{no_outputs}
 use Rattle.meaning.specs.Trees.{wants}
-use Rattle.meaning.proofs.Samples.{template, workflow_of, workflow, call, call_when, mutex, succeeded, settled, printed}
+use Rattle.meaning.proofs.Samples.{template, workflow_of, workflow, call, call_when, mutex, succeeded, failed, settled, printed}
 
 -- ---- conditions over a result
 
@@ -47,6 +47,18 @@ locked_container = record (template (codes "main") body.Pod) { lock = Some (mute
 abbrev locked : Manifest
 locked = record (workflow_of (codes "y") (locked_container ∷ [])) { lock = Some (mutex (codes "m")) }
 
+-- before it is started its root stands alone, without a note, though it has a lock
+pub not_started : printed locked [] ≡ codes "workflow y Pending" ∷ codes "  Pending Pod y" ∷ []
+unfolding digits
+not_started = refl
+
+-- once it is started it waits for its own lock
+pub the_root_waits : printed locked (Started ∷ [])
+    ≡ codes "workflow y Pending" ∷ codes "  Pending Pod y -- waiting for mutex/m" ∷ []
+unfolding digits
+the_root_waits = refl
+
+-- which is asked for at the empty path
 pub the_workflow_waits : wants locked (Started ∷ []) ≡ want.Lock (path []) (mutex (codes "m")) ∷ []
 unfolding digits
 the_workflow_waits = refl
@@ -86,6 +98,12 @@ answered a rest =
     Started ∷ Armed (path (Main ∷ Group 0 ∷ Step 0 ∷ [])) 0 ∷ Due (path (Main ∷ Group 0 ∷ Step 0 ∷ []))
     ∷ Memo (path (Main ∷ Group 1 ∷ Step 0 ∷ [])) a ∷ rest
 
+-- a node that missed and then failed is not saved
+pub a_failure_is_not_saved : wants remembering (answered None (settled (Group 1 ∷ Step 0 ∷ []) failed ∷ [])) ≡ []
+unfolding digits
+a_failure_is_not_saved = refl
+
+-- behind the wait its cache is asked
 pub it_looks : wants remembering waited
     ≡ want.LookUp (path (Main ∷ Group 1 ∷ Step 0 ∷ [])) (codes "mc") (codes "k") (Some 10) ∷ []
 unfolding digits

@@ -213,6 +213,19 @@ pub a_key_of_the_exit_handler : wants keyed_handler (Started ∷ settled [] erro
 unfolding digits
 a_key_of_the_exit_handler = refl
 
+-- the workflow is Running until its exit handler is finished too
+pub the_exit_handler_runs : printed (record (workflow (codes "x") body.Pod) { on_exit = Some (codes "c") })
+    (Started ∷ settled [] succeeded ∷ [])
+    ≡ codes "workflow x Running" ∷ codes "  Succeeded Pod x" ∷ codes "  Running Pod x.onExit" ∷ []
+unfolding digits
+the_exit_handler_runs = refl
+
+-- and it runs behind the entrypoint alone: not while that runs
+pub no_exit_handler_yet : printed (record (workflow (codes "x") body.Pod) { on_exit = Some (codes "c") }) (Started ∷ [])
+    ≡ codes "workflow x Running" ∷ codes "  Running Pod x" ∷ []
+unfolding digits
+no_exit_handler_yet = refl
+
 -- an exit handler that succeeds leaves the workflow its entrypoint's phase
 pub the_entrypoints_phase_stays : printed telling (Started ∷ settled [] failed ∷ [])
     ≡ codes "workflow w Failed"

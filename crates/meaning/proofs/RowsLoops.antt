@@ -1,7 +1,7 @@
 -- Worked examples of loops.
 use Rattle.std.proofs.Common.{◌≡◌, refl}
 use Rattle.std.specs.Fmt.{digits}
-use Rattle.std.specs.Prelude.{List, [], ◌∷◌, Some, None, codes}
+use Rattle.std.specs.Prelude.{ℕ, List, [], ◌∷◌, Some, None, codes}
 use Rattle.serde_json.specs.Data.{Data, unsigned, number, string, array, object, no_items, item, no_members, member}
 use Rattle.serde_json.proofs.OnLiterals.{serde_json_on_literals}
 use Rattle.tree_types.specs.declared.path.Sel.TheVariants.{Group, Step, Item}
@@ -11,7 +11,7 @@ use Rattle.tag_text.specs.Parts.{parts_of}
 use Rattle.wf_manifest.specs.declared.calls.Loop.TheVariants as each
 use Rattle.wf_manifest.specs.declared.templates.Body.TheVariants as body
 use Rattle.wf_manifest.specs.declared.manifest.Manifest.{Manifest}
-use Rattle.meaning.proofs.Samples.{workflow, call_each, succeeded, settled, printed}
+use Rattle.meaning.proofs.Samples.{workflow, one_step, call_each, succeeded, settled, printed}
 
 -- the three items of the first step succeed
 abbrev three_items : List Fact
@@ -63,3 +63,17 @@ pub a_sequence_no_item_and_no_list : printed over_others three_items
     ∷ []
 unfolding digits serde_json_on_literals
 a_sequence_no_item_and_no_list = refl
+
+-- a loop over so many numbers
+abbrev counting : List ℕ → Manifest
+counting n = one_step (codes "w") (call_each (codes "s") (each.Sequence (Some (parts_of n)) None None None)) []
+
+-- 1,001 items are too many
+pub too_many : printed (counting (codes "1001")) (Started ∷ [])
+    ≡ codes "workflow w Error"
+    ∷ codes "  Error Steps w"
+    ∷ codes "    Error StepGroup w[0]"
+    ∷ codes "      Error TaskGroup w[0].s -- too many items"
+    ∷ []
+unfolding digits serde_json_on_literals
+too_many = refl

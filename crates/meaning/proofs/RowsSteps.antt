@@ -11,7 +11,7 @@ use Rattle.wf_manifest.specs.declared.templates.Body.TheVariants as body
 use Rattle.wf_manifest.specs.declared.manifest.Manifest.{Manifest}
 use Rattle.meaning.specs.Answers.{path}
 use Rattle.meaning.specs.Trees.{wants}
-use Rattle.meaning.proofs.Samples.{workflow, call, succeeded, failed, settled, printed}
+use Rattle.meaning.proofs.Samples.{workflow, call, succeeded, failed, errored, settled, printed}
 
 -- a, then b and c beside each other
 abbrev two_groups : Call → Manifest
@@ -33,6 +33,62 @@ pub a_failed_member : printed (two_groups (call (codes "b"))) b_fails
     ∷ []
 unfolding digits
 a_failed_member = refl
+
+-- ---- the worst phase
+
+abbrev three_members : Manifest
+three_members = workflow (codes "p") (body.Steps ((call (codes "a") ∷ call (codes "b") ∷ call (codes "c") ∷ []) ∷ []))
+
+-- of Succeeded, Failed and Error the worst is Error
+pub an_error_is_the_worst : printed three_members
+    (Started ∷ settled (Group 0 ∷ Step 0 ∷ []) succeeded ∷ settled (Group 0 ∷ Step 1 ∷ []) failed
+    ∷ settled (Group 0 ∷ Step 2 ∷ []) errored ∷ [])
+    ≡ codes "workflow p Error"
+    ∷ codes "  Error Steps p"
+    ∷ codes "    Error StepGroup p[0]"
+    ∷ codes "      Succeeded Pod p[0].a"
+    ∷ codes "      Failed Pod p[0].b"
+    ∷ codes "      Error Pod p[0].c"
+    ∷ []
+unfolding digits
+an_error_is_the_worst = refl
+
+-- a group is Running until all its members are finished, though one failed
+pub a_running_member : printed three_members
+    (Started ∷ settled (Group 0 ∷ Step 0 ∷ []) succeeded ∷ settled (Group 0 ∷ Step 1 ∷ []) failed ∷ [])
+    ≡ codes "workflow p Running"
+    ∷ codes "  Running Steps p"
+    ∷ codes "    Running StepGroup p[0]"
+    ∷ codes "      Succeeded Pod p[0].a"
+    ∷ codes "      Failed Pod p[0].b"
+    ∷ codes "      Running Pod p[0].c"
+    ∷ []
+unfolding digits
+a_running_member = refl
+
+-- ---- the next group
+
+-- behind a group with a failure that is not covered no group exists
+pub a_failure_ends_the_steps : printed
+    (workflow (codes "wf") (body.Steps ((call (codes "a") ∷ []) ∷ (call (codes "b") ∷ []) ∷ (call (codes "c") ∷ []) ∷ [])))
+    (Started ∷ settled (Group 0 ∷ Step 0 ∷ []) succeeded ∷ settled (Group 1 ∷ Step 0 ∷ []) failed ∷ [])
+    ≡ codes "workflow wf Failed"
+    ∷ codes "  Failed Steps wf"
+    ∷ codes "    Succeeded StepGroup wf[0]"
+    ∷ codes "      Succeeded Pod wf[0].a"
+    ∷ codes "    Failed StepGroup wf[1]"
+    ∷ codes "      Failed Pod wf[1].b"
+    ∷ []
+unfolding digits
+a_failure_ends_the_steps = refl
+
+-- without any group the steps are Succeeded
+pub no_group : printed (workflow (codes "wf") (body.Steps [])) (Started ∷ [])
+    ≡ codes "workflow wf Succeeded" ∷ codes "  Succeeded Steps wf" ∷ []
+unfolding digits
+no_group = refl
+
+-- ---- a covered failure
 
 abbrev covered_b : Call
 covered_b = record (call (codes "b")) { continue_on = Some (record { failed = true; error = false }) }
