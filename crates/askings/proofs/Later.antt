@@ -21,7 +21,7 @@ use Rattle.growth.specs.Growth.{Among, SaysMore, IsFair, IsOver}
 use Rattle.growth.specs.Writes.{OneByOne, stay, asks, begins_first}
 use Rattle.growth.proofs.Lines.{one_of, Any, any_left, any_right, IsNode}
 use Rattle.growth.proofs.Keeping.{not_both}
-use Rattle.growth.proofs.Paths.{paths, all_fit, one_path}
+use Rattle.growth.proofs.OnePath.{paths, all_fit, one_path}
 use Rattle.growth.proofs.SoundBodies.{Topped}
 use Rattle.growth.proofs.SoundCalls.{main_topped, top_topped}
 use Rattle.growth.proofs.GrowingTrees.{among_nodes, stays}
@@ -29,7 +29,7 @@ use Rattle.growth.proofs.Journals.{one_says_more, asked_says_more, asked_begins}
 use Rattle.growth.proofs.GrowingJournals.{with_fact, begun_is_first, grows, lawful_steps}
 use Rattle.askings.specs.Locks.{IsOverAt}
 use Rattle.askings.specs.Later.{KeepsNames, StaysOver}
-use Rattle.askings.proofs.Locks.{same_node}
+use Rattle.askings.proofs.OverAsksNot.{same_node}
 
 pub keeps_names : KeepsNames
 keeps_names m I K n o j i k e =

@@ -41,7 +41,7 @@ use Rattle.growth.specs.Growth.{New}
 use Rattle.growth.proofs.Numbered.{All, all_numbered, both_true}
 use Rattle.growth.proofs.Lines.{Every, every_map, IsNode, Fine, Under, Inside, Proper, Fair}
 use Rattle.growth.proofs.Keeping.{not_both, Grew}
-use Rattle.growth.proofs.Paths.{paths, all_fit}
+use Rattle.growth.proofs.OnePath.{paths, all_fit}
 use Rattle.growth.proofs.SoundBodies.{items_laid, Sound}
 use Rattle.growth.proofs.SoundCalls.{BodyFits, FoundFits, named_fits, memo_topped, loop_at, one_called, calls_sound}
 use Rattle.growth.proofs.GrowingBodies.{Growing}

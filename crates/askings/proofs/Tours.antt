@@ -27,7 +27,7 @@ use Rattle.meaning.specs.Trees.{pending_root}
 use Rattle.growth.specs.Growth.{IsSave}
 use Rattle.growth.proofs.Keeping.{not_both, At}
 use Rattle.growth.proofs.Lines.{Every, Any, any_left, any_right, IsNode}
-use Rattle.growth.proofs.Paths.{paths}
+use Rattle.growth.proofs.OnePath.{paths}
 use Rattle.growth.proofs.SoundBodies.{Topped}
 use Rattle.askings.specs.Owners.{is_attempt, memo_at}
 use Rattle.askings.proofs.Walks.{Guarded}

@@ -32,7 +32,7 @@ use Rattle.growth.specs.Growth.{SaysMore, New}
 use Rattle.growth.proofs.Numbered.{Pairs, pairs_from, pairs_same}
 use Rattle.growth.proofs.Lines.{Any, IsWant, any_right, from_under, Begins, Holds, past_wants, one_of, Proper, Under, Inside, AtChild, From, Fair, fair_child, fair_rest, fair_below, fair_map, from_inside, rows_fair, under_at_child}
 use Rattle.growth.proofs.Keeping.{not_both, AllKept, Later, Grew, Begun, all_left, all_right, all_append, all_beside, all_same, same_top, unchanged, begun_beside, begun_below, begun_nothing, rows_kept, rows_begun, At, node_at, ending_ends, same_place, open_follows, made_later}
-use Rattle.growth.proofs.Paths.{paths}
+use Rattle.growth.proofs.OnePath.{paths}
 use Rattle.growth.proofs.SoundBodies.{group_at, step_at, group_ways, step_ways, members_laid, StepsFit, Topped, pod_proper, retry_at, retry_proper, suspend_topped, Sound, at_child, members_proper, group_called, groups_sound}
 use Rattle.meaning.proofs.Flattening.{lines_tried}
 

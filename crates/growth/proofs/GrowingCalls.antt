@@ -37,7 +37,7 @@ use Rattle.growth.specs.Growth.{SaysMore, New}
 use Rattle.growth.proofs.Numbered.{Pairs, pairs_from, pairs_same}
 use Rattle.growth.proofs.Lines.{behind_first, Any, IsNode, IsWant, IsAt, Begins, Proper, Nowhere, Under, Inside, AtChild, From, Fair, fair_left, fair_right, fair_below, fair_map, rows_fair, inside_under, exit_apart, child_under, from_under}
 use Rattle.growth.proofs.Keeping.{all_right, same_place, not_both, SameTop, Later, Begun, Grew, kept_in, all_left, all_beside, same_top, unchanged, begun_beside, begun_left, begun_below, still, rows_kept, rows_begun, At, node_at, AllKept}
-use Rattle.growth.proofs.Paths.{paths, all_fit}
+use Rattle.growth.proofs.OnePath.{paths, all_fit}
 use Rattle.growth.proofs.SoundBodies.{topped_called, items_laid, Topped, Sound}
 use Rattle.growth.proofs.SoundCalls.{item_at, item_ways, BodyFits, FoundFits, named_fits, base_topped, remembered_topped, locked_topped, template_topped, hook_topped, Stops, before_loop_stops, at_item_stops, items_proper, calls_sound}
 use Rattle.growth.proofs.GrowingBodies.{open_later, succeeded_fulfilled, pod_grew, retry_grew, suspend_grew, Growing, fair_under, steps_grew}

@@ -26,7 +26,7 @@ use Rattle.growth.specs.Growth.{SaysMore, New}
 use Rattle.growth.proofs.Numbered.{All, Pairs, both_true, all_map, pairs_from}
 use Rattle.growth.proofs.Lines.{Has, Proper, proper_map, proper_holds, child_not_deep, Under, Inside, AtChild, Deep, From, under_deep, from_inside, rows_in, rows_fair, Fair, fair_below, fair_map}
 use Rattle.growth.proofs.Keeping.{not_both, AllKept, Later, Grew, Begun, begun_below, begun_nothing, rows_kept, rows_begun, unchanged, ending_ends, same_place, made_later}
-use Rattle.growth.proofs.Paths.{paths}
+use Rattle.growth.proofs.OnePath.{paths}
 use Rattle.growth.proofs.SoundBodies.{task_at, task_ways, tasks_laid, Sound, StandSound, rounds_sound, lines_proper, standing_lines, task_lines, dag_lines}
 use Rattle.growth.proofs.GrowingBodies.{Growing, fair_under}
 use Rattle.growth.proofs.DagRounds.{Keeps, keeps_agree, look_related, Related, truth_at, all_over, Knows, awaited_same, round_down, AllHold, rounds_stay}

@@ -26,7 +26,7 @@ use Rattle.meaning.specs.Trees.{globals_of, root, exit_root, top_call, main_made
 use Rattle.growth.specs.Growth.{Among, Follows, Grown, SaysMore, New, IsFair, GrowsByAnswers, IsOver, Stays, IsSave, AsksOnlySaves, KeepsTicks, Unanswered}
 use Rattle.growth.proofs.Lines.{Any, IsNode, IsWant, Has, Holds, Open, Unresumed, Proper, Anywhere, Under, Inside, inside_under, Fair, fair_left, fair_right, not_begun}
 use Rattle.growth.proofs.Keeping.{not_both, Kept, AllKept, Later, Begun, Grew, all_left, all_beside, all_same, begun_beside, node_at, open_follows}
-use Rattle.growth.proofs.Paths.{paths, all_fit}
+use Rattle.growth.proofs.OnePath.{paths, all_fit}
 use Rattle.growth.proofs.SoundCalls.{calls_sound, main_topped, exit_sound, lines_whole}
 use Rattle.growth.proofs.GrowingCalls.{plain_grew, calls_grew}
 

@@ -18,13 +18,13 @@ use Rattle.growth.specs.Growth.{Among, IsSave}
 use Rattle.growth.specs.Nodes.{Unlike}
 use Rattle.growth.proofs.Lines.{Every, every_append, every_map, Any, IsNode}
 use Rattle.growth.proofs.Keeping.{not_both}
-use Rattle.growth.proofs.Paths.{one_path}
+use Rattle.growth.proofs.OnePath.{one_path}
 use Rattle.growth.proofs.GrowingTrees.{among_nodes}
 use Rattle.askings.specs.Locks.{OverAsksNot}
 use Rattle.askings.proofs.Walks.{Guarded}
 use Rattle.askings.proofs.Tours.{Part, Quiet, Headed, Tour}
 use Rattle.askings.proofs.TourCalls.{tour}
-use Rattle.askings.proofs.Owners.{has_node}
+use Rattle.askings.proofs.HasNode.{has_node}
 
 module _ (m : Manifest) (A : Answers) (whole : List Line) where
   -- a node of this path stands there that is not fulfilled
