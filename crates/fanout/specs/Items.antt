@@ -4,12 +4,13 @@ use Rattle.std.specs.Prelude.{List, [], ◌∷◌, length, Bool, true, false, �
 use Rattle.std.specs.List.{list_all}
 use Rattle.serde_json.specs.Data.{float, Data, null, boolean, number, string, array, object, Items, no_items, item, Members, no_members, member}
 use Rattle.serde_json.specs.Read.{read}
+use Rattle.base_types.specs.Limits.{most_items}
 use Rattle.tree_types.specs.declared.node.Note.TheVariants.{NotList, BadItem, TooManyItems}
 use Rattle.tag_text.specs.Parts.{parts_of}
 use Rattle.wf_manifest.specs.declared.calls.Loop.{Loop}
 use Rattle.wf_manifest.specs.declared.calls.Loop.TheVariants as each
 use Rattle.scopes.specs.Substitution.{Found, ◌>>=◌, Scope, said, said_option}
-use Rattle.fanout.specs.Sequences.{most_items, Format, written, sequence_texts}
+use Rattle.fanout.specs.Sequences.{Format, written, sequence_texts}
 
 -- the texts inside a value are substituted, in lists and maps too; keys are not
 abbrev mutual

@@ -1,6 +1,9 @@
 pub mod Faults
+pub mod Inside
 pub mod ItemTexts
 pub mod Items
-pub mod Rows
 pub mod Sequences
-pub mod Shapes
+pub use Rattle.base_types.specs.Limits
+pub use Rattle.scopes.specs.Substitution
+pub use Rattle.scopes.specs.Values
+pub use Rattle.wf_manifest.specs.declared.calls.Loop

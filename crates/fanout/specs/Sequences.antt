@@ -4,12 +4,9 @@ use Rattle.std.specs.Prelude.{ℕ, zero, suc, ◌-◌, ◌^◌, ℤ, pos, negsuc
 use Rattle.std.specs.List.{starts_with, list_all}
 use Rattle.std.specs.Char.{is_ascii_digit}
 use Rattle.std.specs.Str.Parse.{digits_value}
+use Rattle.base_types.specs.Limits.{most_items}
 use Rattle.tree_types.specs.declared.node.Note.TheVariants.{BadNumber, BadFormat, TooManyItems}
 use Rattle.scopes.specs.Substitution.{Found, ◌>>=◌}
-
--- the most items of a loop
-abbrev pub most_items : ℕ
-most_items = 1000
 
 -- ---- numbers
 

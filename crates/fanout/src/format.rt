@@ -3,7 +3,7 @@
 ghost use Rattle.std.specs.Prelude.{◌≡◌, ◌++◌, ◌-◌, option_map, replicate, length, decimal, OnOk, IfOk};
 ghost use Rattle.fanout.specs.Faults.{Tells};
 ghost use Rattle.fanout.specs.Sequences.{format_of, padded, written};
-ghost use Rattle.fanout.specs.Shapes.{parts_of_shape, AfterFront, AfterBack, number_behind, width_read};
+ghost use Rattle.fanout.specs.Inside.Shapes.{parts_of_shape, AfterFront, AfterBack, number_behind, width_read};
 
 use crate::FanRefused;
 use base_types::{Memory, Text, TryCopy};
@@ -109,7 +109,8 @@ fn push_number(text: &mut Text, width: usize, number: i64) -> Result<(), Memory>
 }
 
 fn push_padded(text: &mut Text, width: usize, number: u64) -> Result<(), Memory>
-    ensures { OnOk result (text.new ≡ text.old ++ (replicate (width - length (decimal number)) 48 ++ decimal number)) }
+    ensures { OnOk result (text.new ≡ text.old
+        ++ (replicate (width - length (decimal number)) 48 ++ decimal number)) }
 {
     let digits = format!(in text.allocator(); "{number}")?;
     push_zeros(text, width.saturating_sub(digits.len()))?;

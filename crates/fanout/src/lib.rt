@@ -9,8 +9,6 @@ mod refused;
 mod said;
 mod sequence;
 mod tags;
-#[cfg(test)]
-mod tests;
 mod texts;
 
 use base_types::List;

@@ -8,12 +8,10 @@ ghost use Rattle.fanout.specs.Items.{is_whole, are_whole, members_are_whole, ite
 
 use crate::{FanRefused, Items};
 use base_types::Memory;
+use base_types::limits::MOST_ITEMS;
 use serde_json::{Map, Value};
 use std::alloc::Global;
 use wf_manifest::Json;
-
-/// The most items of a loop.
-pub(crate) const MOST_ITEMS: usize = 1000;
 
 /// The items that a text says as a JSON list.
 pub(crate) fn read_items(alloc: Global, text: &str) -> Result<Items, FanRefused>

@@ -4,7 +4,7 @@ ghost use Rattle.std.specs.Prelude.{◌≡◌, ◌≤◌, ◌^◌, IfOk};
 ghost use Rattle.std.specs.List.{list_all};
 ghost use Rattle.std.specs.Char.{is_ascii_digit};
 ghost use Rattle.fanout.specs.Faults.{Tells};
-ghost use Rattle.fanout.specs.Rows.{IsNear};
+ghost use Rattle.fanout.specs.Inside.Rows.{IsNear};
 ghost use Rattle.fanout.specs.Sequences.{are_digits, natural_of, whole_of};
 
 use crate::FanRefused;

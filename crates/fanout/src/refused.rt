@@ -5,11 +5,10 @@ ghost use Rattle.fanout.specs.declared.refused.FanRefused.TheVariants as refused
 
 use base_types::{Memory, Text};
 use std::alloc::{AllocError, AllocFailed};
-use std::fmt;
 use thiserror::Error;
 
 /// The first fault of a loop.
-#[derive(Drop, Error)]
+#[derive(Debug, Drop, Error)]
 pub enum FanRefused {
     #[error("not a list")]
     NotList,
@@ -25,12 +24,6 @@ pub enum FanRefused {
     Unresolved { tag: Text },
     #[error("out of memory")]
     Memory,
-}
-
-impl fmt::Debug for FanRefused {
-    fn fmt<W: fmt::Write>(&self, f: &mut fmt::Formatter<W>) -> fmt::Result {
-        fmt::Display::fmt(self, f)
-    }
 }
 
 impl From<Memory> for FanRefused {

@@ -69,7 +69,8 @@ pub(crate) fn said_value(alloc: Global, value: &Value, scope: &Scope) -> Result<
 
 #[cycle(said)]
 fn said_values(alloc: Global, values: &Vec<Value>, scope: &Scope) -> Result<Vec<Value>, FanRefused>
-    ensures { Tells (λ said. items_view said.items) result (said_in_items scope.now (items_view values.now.items)) }
+    ensures { Tells (λ said. items_view said.items) result
+        (said_in_items scope.now (items_view values.now.items)) }
 {
     let mut said = Vec::with_capacity(alloc, values.len())?;
     for value in values {
@@ -87,7 +88,8 @@ fn said_members(
     members: &Map<String, Value>,
     scope: &Scope,
 ) -> Result<Map<String, Value>, FanRefused>
-    ensures { Tells (λ said. members_view said.entries) result (said_in_members scope.now (members_view members.now.entries)) }
+    ensures { Tells (λ said. members_view said.entries) result
+        (said_in_members scope.now (members_view members.now.entries)) }
 {
     let mut said = Map::new(alloc);
     for (key, member) in members.iter() {

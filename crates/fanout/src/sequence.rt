@@ -2,16 +2,17 @@
 
 ghost use Rattle.std.specs.Prelude.{◌≡◌, ◌≤◌, IfOk, pos};
 ghost use Rattle.serde_json.specs.Data.{string};
+ghost use Rattle.base_types.specs.Limits.{most_items};
 ghost use Rattle.fanout.specs.Faults.{Tells};
-ghost use Rattle.fanout.specs.Rows.{row_of, number_from, IsNear};
+ghost use Rattle.fanout.specs.Inside.Rows.{row_of, number_from, IsNear};
 ghost use Rattle.fanout.specs.Sequences.{whole_or, row_to, row_said, format_or, numbers, written};
 ghost use Rattle.fanout.specs.Items.{number_items, sequence_items as sequence_found};
-ghost use Rattle.fanout.specs.Shapes.{parts_of_shape};
+ghost use Rattle.fanout.specs.Inside.Shapes.{parts_of_shape};
 
 use crate::format::{Format, read_format, write_number};
-use crate::lists::MOST_ITEMS;
 use crate::numbers::read_whole;
 use crate::{FanRefused, Items};
+use base_types::limits::MOST_ITEMS;
 use base_types::{Memory, Text};
 use serde_json::Value;
 use std::alloc::Global;
@@ -83,7 +84,8 @@ pub(crate) fn sequence_items(
     end: &Option<Text>,
     format: &Option<Text>,
 ) -> Result<Items, FanRefused>
-    ensures { Tells (λ items. items) result (sequence_found count.now start.now end.now format.now) }
+    ensures { Tells (λ items. items) result
+        (sequence_found count.now start.now end.now format.now) }
 {
     let row = read_row(count, start, end)?;
     let format = format_or_plain(alloc, format)?;
@@ -104,8 +106,9 @@ fn format_or_plain(alloc: Global, format: &Option<Text>) -> Result<Format, FanRe
 
 fn write_row(alloc: Global, format: &Format, row: &Row) -> Result<Items, Memory>
     requires near { IsNear row.now.first }
-    requires few { row.now.count ≤ 1000 }
-    ensures { IfOk result (λ items. items ≡ number_items (parts_of_shape format.now, numbers (row_of row.now))) }
+    requires few { row.now.count ≤ most_items }
+    ensures { IfOk result (λ items.
+        items ≡ number_items (parts_of_shape format.now, numbers (row_of row.now))) }
 {
     let mut items = Items::with_capacity(alloc, row.count as usize)?;
     for place in 0..row.count {
@@ -116,8 +119,9 @@ fn write_row(alloc: Global, format: &Format, row: &Row) -> Result<Items, Memory>
 
 fn row_item(format: &Format, row: &Row, place: u64) -> Result<Json, Memory>
     requires near { IsNear row.now.first }
-    requires few { place ≤ 1000 }
-    ensures { IfOk result (λ item. item ≡ string (written (parts_of_shape format.now) (number_from row.now.down row.now.first place))) }
+    requires few { place ≤ most_items }
+    ensures { IfOk result (λ item. item ≡ string
+        (written (parts_of_shape format.now) (number_from row.now.down row.now.first place))) }
 {
     number_item(format, number_at(row.first, row.down, place))
 }
@@ -131,7 +135,7 @@ fn number_item(format: &Format, number: i64) -> Result<Json, Memory>
 
 fn number_at(first: i64, down: bool, place: u64) -> i64
     requires near { IsNear first }
-    requires few { place ≤ 1000 }
+    requires few { place ≤ most_items }
     ensures { result ≡ number_from down first place }
 {
     if down {

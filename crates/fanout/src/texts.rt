@@ -4,7 +4,7 @@ ghost use Rattle.std.specs.Prelude.{◌≡◌, ◌++◌, codes, IfOk, OnOk, IsTr
 ghost use Rattle.std.specs.List.{join_with_byte};
 ghost use Rattle.serde_json.specs.View.{view, members_view};
 ghost use Rattle.fanout.specs.ItemTexts.{item_text as text_of_item, name_text as text_in_name, pair_texts, without_parentheses};
-ghost use Rattle.fanout.specs.Shapes.{and_pair};
+ghost use Rattle.fanout.specs.Inside.Shapes.{and_pair};
 ghost use Rattle.fanout.specs.Items.{is_whole, members_are_whole};
 
 use base_types::{Memory, Text};
@@ -48,7 +48,8 @@ pub(crate) fn value_text(alloc: Global, value: &Value) -> Result<Text, Memory>
 
 fn pairs_text(alloc: Global, members: &Map<String, Value>) -> Result<Text, Memory>
     requires { IsTrue (members_are_whole (members_view members.now.entries)) }
-    ensures { IfOk result (λ text. text ≡ join_with_byte 44 (pair_texts (members_view members.now.entries))) }
+    ensures { IfOk result (λ text.
+        text ≡ join_with_byte 44 (pair_texts (members_view members.now.entries))) }
 {
     let mut pairs = Text::new(alloc);
     for (key, value) in members.iter() {

@@ -4,9 +4,6 @@
 mod escape;
 mod line;
 mod note;
-#[cfg(test)]
-mod tests;
 mod tree;
-mod word;
 
 pub use tree::print_tree;

@@ -6,7 +6,6 @@ ghost use Rattle.tree_types.specs.Texts.{kind_text, node_line, workflow_line};
 
 use crate::escape::push_escaped;
 use crate::note::push_note;
-use crate::word::{kind_word, phase_word};
 use base_types::{Bytes, Memory, Text};
 use tree_types::{Kind, Node, Phase};
 
@@ -17,7 +16,7 @@ pub(crate) fn push_workflow(text: &mut Bytes, name: &Text, phase: Phase) -> Resu
     text.extend(b"workflow ")?;
     push_escaped(text, name.as_str())?;
     text.extend(b" ")?;
-    text.extend(phase_word(phase).as_bytes())?;
+    text.extend(phase.word().as_bytes())?;
     text.push(b'\n')
 }
 
@@ -40,11 +39,12 @@ fn push_node_line(text: &mut Bytes, node: &Node) -> Result<(), Memory>
 
 // Adds the words of a phase and a kind, with a space behind each.
 fn push_words(text: &mut Bytes, phase: Phase, kind: Kind) -> Result<(), Memory>
-    ensures { OnOk result (text.new ≡ text.old ++ phase_text phase ++ codes " " ++ kind_text kind ++ codes " ") }
+    ensures { OnOk result
+        (text.new ≡ text.old ++ phase_text phase ++ codes " " ++ kind_text kind ++ codes " ") }
 {
-    text.extend(phase_word(phase).as_bytes())?;
+    text.extend(phase.word().as_bytes())?;
     text.extend(b" ")?;
-    text.extend(kind_word(kind).as_bytes())?;
+    text.extend(kind.word().as_bytes())?;
     text.extend(b" ")
 }
 

@@ -42,14 +42,16 @@ fn push_said(line: &mut Bytes, words: &str) -> Result<(), Memory>
 }
 
 fn push_named(line: &mut Bytes, words: &str, name: &Text) -> Result<(), Memory>
-    ensures { OnOk result (line.new ≡ line.old ++ (codes " -- " ++ escaped (words.now ++ name.now))) }
+    ensures { OnOk result
+        (line.new ≡ line.old ++ (codes " -- " ++ escaped (words.now ++ name.now))) }
 {
     push_said(line, words)?;
     push_escaped(line, name.as_str())
 }
 
 fn push_hit(line: &mut Bytes, cache: &Text, key: &Text) -> Result<(), Memory>
-    ensures { OnOk result (line.new ≡ line.old ++ (codes " -- " ++ escaped (codes "hit " ++ cache.now ++ codes " " ++ key.now))) }
+    ensures { OnOk result (line.new ≡ line.old
+        ++ (codes " -- " ++ escaped (codes "hit " ++ cache.now ++ codes " " ++ key.now))) }
 {
     push_named(line, "hit ", cache)?;
     push_escaped(line, " ")?;

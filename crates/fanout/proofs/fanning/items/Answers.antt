@@ -1,4 +1,4 @@
-use Rattle.fanout.proofs.Wholes.{sequence_items_whole}
+use Rattle.fanout.proofs.IsWhole.{sequence_items_whole}
 use Rattle.fanout.proofs.fanning.items.Goals as goal
 
 pub returns-in_ok-format-in-Sequence-clause-whole : goal.returns-in_ok-format-in-Sequence-clause-whole

@@ -1,7 +1,7 @@
 use Rattle.std.proofs.Common.{◌≡◌, rules, [], ◌∷◌, ◌++◌, Some, None, option_map, sym, ◌∙◌, ap, subst, lit<}
 use Rattle.std.proofs.lemmas.Str.Pattern.{strip_prefix_char, split_parts}
-use Rattle.fanout.specs.Shapes.{plain, parts_in}
-use Rattle.fanout.proofs.Formats.{step_double, step_second, step_last}
+use Rattle.fanout.specs.Inside.Shapes.{plain, parts_in}
+use Rattle.fanout.proofs.FormatParts.{step_double, step_second, step_last}
 use Rattle.fanout.proofs.format.read_back.Goals as goal
 
 pub returns-in_default-strip_prefix : goal.returns-in_default-strip_prefix

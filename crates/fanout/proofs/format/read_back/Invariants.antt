@@ -1,7 +1,7 @@
 use Rattle.std.proofs.Common.{◌≡◌, ◌++◌, length, option_map}
 use denote.Text.{Utf8}
 use denote.Shadow.{shadow}
-use Rattle.fanout.specs.Shapes.{plain, parts_in}
+use Rattle.fanout.specs.Inside.Shapes.{plain, parts_in}
 use Rattle.fanout.proofs.format.read_back.Given as goal
 
 abbrev pub invariant-loop-plain : goal.invariant-loop-plain

@@ -1,7 +1,7 @@
 use Rattle.std.proofs.Common.{◌∙◌, ap, option_map}
 use Rattle.fanout.specs.Sequences.{checked_format}
-use Rattle.fanout.specs.Shapes.{around}
-use Rattle.fanout.proofs.Formats.{checked-around}
+use Rattle.fanout.specs.Inside.Shapes.{around}
+use Rattle.fanout.proofs.FormatParts.{checked-around}
 use Rattle.fanout.proofs.format.read_format.Goals as goal
 
 pub returns : goal.returns

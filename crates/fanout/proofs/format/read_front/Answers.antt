@@ -1,7 +1,7 @@
 use Rattle.std.proofs.Common.{◌≡◌, rules, [], ◌∷◌, ◌++◌, Some, None, option_map, sym, ◌∙◌, ap, subst, lit<}
 use Rattle.std.proofs.lemmas.Str.Pattern.{strip_prefix_char, split_parts}
-use Rattle.fanout.specs.Shapes.{plain, around, parts_in}
-use Rattle.fanout.proofs.Formats.{step_double, step_number, step_bad, step_plain}
+use Rattle.fanout.specs.Inside.Shapes.{plain, around, parts_in}
+use Rattle.fanout.proofs.FormatParts.{step_double, step_number, step_bad, step_plain}
 use Rattle.fanout.proofs.format.read_front.Goals as goal
 
 pub returns-in_default : goal.returns-in_default

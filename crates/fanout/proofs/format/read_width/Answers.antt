@@ -1,8 +1,8 @@
 use Rattle.std.proofs.Common.{◌≡◌, ◌<◌, rules, arith, None, Some, length, get_or, drop, ◌∙◌, sym, ap, lit<, option_map}
 use Rattle.std.proofs.lemmas.Grind.{common_steps}
 use Rattle.std.proofs.lemmas.Str.Pattern.{strip_prefix_char}
-use Rattle.fanout.specs.Shapes.{width_read}
-use Rattle.fanout.proofs.Formats.{not_short, wide_number-no_zero, number_behind-zero, head_rest}
+use Rattle.fanout.specs.Inside.Shapes.{width_read}
+use Rattle.fanout.proofs.FormatParts.{not_short, wide_number-no_zero, number_behind-zero, head_rest}
 use Rattle.fanout.proofs.format.read_width.Goals as goal
 
 pub returns-in_err-wide : goal.returns-in_err-wide

@@ -1,5 +1,5 @@
 use Rattle.std.proofs.Common.{arith}
-use Rattle.fanout.proofs.Writing.{written-around}
+use Rattle.fanout.proofs.Written.{written-around}
 use Rattle.fanout.proofs.format.write_number.Goals as goal
 
 pub returns : goal.returns

@@ -1,7 +1,7 @@
 use Rattle.std.proofs.Common.{◌≡◌, true, false, arith, sym, ◌∙◌, ap, Ok}
 use Rattle.serde_json.specs.View.{items_view}
 use Rattle.fanout.specs.Items.{are_whole, items_of_data}
-use Rattle.fanout.proofs.Wholes.{bad_items, many_items, good_items}
+use Rattle.fanout.proofs.IsWhole.{bad_items, many_items, good_items}
 use Rattle.serde_json.specs.View.{view}
 use Rattle.fanout.proofs.lists.items_of.Goals as goal
 

@@ -1,6 +1,6 @@
 use Rattle.std.proofs.Common.{◌≡◌, true}
 use Rattle.fanout.specs.Sequences.{are_digits}
-use Rattle.fanout.proofs.Numerals.{parse-are_digits}
+use Rattle.fanout.proofs.WholeOf.{parse-are_digits}
 use Rattle.fanout.proofs.numbers.read_natural.Goals as goal
 
 pub returns-in_default-clause-told : goal.returns-in_default-clause-told

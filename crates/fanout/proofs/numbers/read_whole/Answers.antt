@@ -2,7 +2,7 @@ use Rattle.std.proofs.Common.{◌≡◌, false, codes, nat_eq, arith, lit<, None
 use Rattle.std.specs.List.{starts_with}
 use Rattle.std.proofs.lemmas.Grind.{common_steps}
 use Rattle.std.proofs.lemmas.Str.Pattern.{strip_prefix_char}
-use Rattle.fanout.proofs.Numerals.{no_minus}
+use Rattle.fanout.proofs.WholeOf.{no_minus}
 use Rattle.fanout.proofs.numbers.read_whole.Goals as goal
 
 pub returns-in_err-read_natural-in-None-clause-told :

@@ -8,7 +8,7 @@ use Rattle.serde_json.specs.View.{view, items_view, members_view}
 use Rattle.serde_json.proofs.Views.{Entry, members_view-insert_entry}
 use Rattle.fanout.specs.Faults.{Tells}
 use Rattle.fanout.specs.Items.{said_in_items}
-use Rattle.fanout.proofs.Saying.{values_fault, values_next, members_fault, members_next}
+use Rattle.fanout.proofs.SaidIn.{values_fault, values_next, members_fault, members_next}
 use Rattle.fanout.proofs.said.+said.Goals as goal
 
 pub said_values-returns-in-Err : goal.said_values-returns-in-Err

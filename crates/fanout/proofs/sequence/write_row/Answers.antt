@@ -1,10 +1,10 @@
 use Rattle.std.proofs.Common.{◌+◌, ◌-◌, ◌++◌, map, ℤ, ap, ◌∙◌}
 use Rattle.serde_json.specs.Data.{Data, string}
 use Rattle.fanout.specs.Items.{number_items}
-use Rattle.fanout.specs.Rows.{row_of, number_from}
+use Rattle.fanout.specs.Inside.Rows.{row_of, number_from}
 use Rattle.fanout.specs.Sequences.{written, numbers, numbers_from}
-use Rattle.fanout.specs.Shapes.{parts_of_shape}
-use Rattle.fanout.proofs.Writing.{row_step, row_begins, number_from-next}
+use Rattle.fanout.specs.Inside.Shapes.{parts_of_shape}
+use Rattle.fanout.proofs.Written.{row_step, row_begins, number_from-next}
 use Rattle.fanout.proofs.sequence.write_row.Goals as goal
 
 pub loop-place-init : goal.loop-place-init

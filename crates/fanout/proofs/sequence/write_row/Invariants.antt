@@ -1,9 +1,9 @@
 use Rattle.std.proofs.Common.{◌≡◌, ◌-◌, ◌++◌, map}
 use Rattle.serde_json.specs.Data.{string}
 use Rattle.fanout.specs.Items.{number_items}
-use Rattle.fanout.specs.Rows.{row_of, number_from}
+use Rattle.fanout.specs.Inside.Rows.{row_of, number_from}
 use Rattle.fanout.specs.Sequences.{written, numbers_from, numbers}
-use Rattle.fanout.specs.Shapes.{parts_of_shape}
+use Rattle.fanout.specs.Inside.Shapes.{parts_of_shape}
 use Rattle.fanout.proofs.sequence.write_row.Given as goal
 
 abbrev pub invariant-loop-place : goal.invariant-loop-place

@@ -1,12 +1,15 @@
-use Rattle.std.proofs.Common.{◌≡◌, true, [], ◌∷◌, ◌++◌, codes, string_bytes, subst}
+use Rattle.std.proofs.Common.{◌≡◌, true, [], ◌∷◌, ◌++◌, codes, string_bytes, subst, sym}
 use Rattle.std.proofs.lemmas.Bool.{and_parts}
 use Rattle.serde_json.specs.View.{view, members_view}
 use Rattle.serde_json.proofs.Views.{Entry}
-use Rattle.scopes.specs.Values.{HasValuesOf}
-use Rattle.scopes.proofs.Lookups.{alike_trans}
+use Rattle.std.specs.List.Sorted.{IsStrictlySortedBy}
+use Rattle.std.specs.Map.{keys_of}
+use Rattle.std.specs.String.{string_cmp}
+use Rattle.scopes.specs.Values.{HasValuesOf, HasValuesOfEither}
+use Rattle.scopes.proofs.ValueIn.{alike_trans}
 use Rattle.fanout.specs.Items.{is_whole, members_are_whole}
 use Rattle.fanout.specs.ItemTexts.{item_text, member_tags}
-use Rattle.fanout.proofs.Tagging.{with_members, with_members-alike, with_members-all}
+use Rattle.fanout.proofs.ItemTags.{with_members, with_members-alike, with_members-all, between_next, sorted_next, either_alike, on_err}
 use Rattle.fanout.proofs.tags.add_members.Goals as goal
 
 pub loop-key-preserved : goal.loop-key-preserved
@@ -18,16 +21,20 @@ loop-key-preserved c =
     let all = with_members c.args.scope.now (members_view c.args.members.now.entries) in
     let more = (codes "item." ++ string_bytes e.0, item_text (view e.1)) ∷ l.scope in
     let added : HasValuesOf c.add_member.new.scope more =
-    subst (λ k. HasValuesOf c.add_member.new.scope ((codes "item." ++ k, item_text (view e.1)) ∷ l.scope)) c.as_str.ensures.value c.in_ok-add_member.ensures in
+    subst (λ k. HasValuesOf c.add_member.new.scope ((codes "item." ++ k, item_text (view e.1)) ∷ l.scope)) c.as_str.ensures.value c.in_ok-add_member.ensures.ok in
     let given = subst (λ es. HasValuesOf (with_members l.scope (members_view es)) all) step l.invariant.given in
     let whole = subst (λ es. members_are_whole (members_view es) ≡ true) step l.invariant.whole in
+    let given_here = subst (λ es. HasValuesOf (with_members l.scope (members_view es)) all) step l.invariant.given in
+    let sorted = subst (λ es. IsStrictlySortedBy string_cmp (keys_of es)) step l.invariant.sorted in
     record {
+      sorted = sorted_next e left sorted;
+      between = between_next e left l.scope c.args.scope.now all c.add_member.new.scope sorted l.invariant.between given_here added;
       given = alike_trans (with_members c.add_member.new.scope (members_view left)) (with_members more (members_view left)) all (with_members-alike c.add_member.new.scope more (members_view left) added) given;
       whole = (and_parts (is_whole (view e.1)) (members_are_whole (members_view left)) whole).1;
     }
 
-pub returns : goal.returns
-returns c =
+pub returns-clause-ok : goal.returns-clause-ok
+returns-clause-ok c =
     let l = c.loop-key in
     let end : l.key-iterator ≡ [] = c.in-None.ensures.steps.0 in
     let old = c.args.scope.now in
@@ -35,3 +42,14 @@ returns c =
     let all = with_members old (members_view entries) in
     let given = subst (λ es. HasValuesOf (with_members l.scope (members_view es)) all) end l.invariant.given in
     alike_trans l.scope all (member_tags (members_view entries) ++ old) given (with_members-all entries old c.iter-key-items.ensures.ordered)
+
+pub returns-in_err-add_member-clause-err : goal.returns-in_err-add_member-clause-err
+returns-in_err-add_member-clause-err c =
+    let l = c.loop-key in
+    let old = c.args.scope.now in
+    let entries = c.args.members.now.entries in
+    let all = with_members old (members_view entries) in
+    let new = c.add_member.new.scope in
+    let between = subst (λ s. HasValuesOfEither s old all) (sym c.in_err-add_member.ensures.err) l.invariant.between in
+    on_err c.from_residual.result (HasValuesOfEither new old (member_tags (members_view entries) ++ old))
+    (either_alike new old all (member_tags (members_view entries) ++ old) between (with_members-all entries old c.iter-key-items.ensures.ordered))

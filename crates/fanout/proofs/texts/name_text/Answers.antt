@@ -2,7 +2,7 @@ use Rattle.std.proofs.Common.{◌≡◌, Some, sym, ap, ◌∙◌}
 use Rattle.serde_json.specs.Find.{as_object}
 use Rattle.serde_json.specs.View.{view, members_view}
 use Rattle.fanout.specs.Items.{is_whole}
-use Rattle.fanout.proofs.Naming.{whole_members}
+use Rattle.fanout.proofs.NameText.{whole_members}
 use Rattle.fanout.proofs.texts.name_text.Goals as goal
 
 pub pairs_text-requires : goal.pairs_text-requires

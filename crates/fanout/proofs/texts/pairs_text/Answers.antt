@@ -1,6 +1,6 @@
 use Rattle.std.proofs.Common.{◌≡◌, [], sym, ap, ◌∙◌}
 use Rattle.serde_json.specs.View.{members_view}
-use Rattle.fanout.proofs.Naming.{with_pairs, with_pairs-all}
+use Rattle.fanout.proofs.NameText.{with_pairs, with_pairs-all}
 use Rattle.fanout.proofs.texts.pairs_text.Goals as goal
 
 pub returns : goal.returns

@@ -1,6 +1,6 @@
 use Rattle.std.proofs.Common.{◌≡◌, rules, ◌++◌, Some, None, sym, ◌∙◌, ap, subst, lit<, OnOk}
 use Rattle.std.proofs.lemmas.Str.Pattern.{split_parts}
-use Rattle.fanout.proofs.Naming.{without_closing, closing_cut, closing_end}
+use Rattle.fanout.proofs.NameText.{without_closing, closing_cut, closing_end}
 use Rattle.fanout.proofs.texts.push_without_closing.Goals as goal
 
 pub loop-front-preserved : goal.loop-front-preserved

@@ -1,7 +1,7 @@
 use Rattle.std.proofs.Common.{◌≡◌, ◌++◌, length}
 use denote.Text.{Utf8}
 use denote.Shadow.{shadow}
-use Rattle.fanout.proofs.Naming.{without_closing}
+use Rattle.fanout.proofs.NameText.{without_closing}
 use Rattle.fanout.proofs.texts.push_without_closing.Given as goal
 
 abbrev pub invariant-loop-front : goal.invariant-loop-front

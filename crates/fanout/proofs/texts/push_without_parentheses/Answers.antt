@@ -1,7 +1,7 @@
 use Rattle.std.proofs.Common.{◌≡◌, rules, ◌++◌, Some, None, sym, ◌∙◌, ap, subst, lit<, OnOk}
 use Rattle.fanout.specs.ItemTexts.{without_parentheses}
 use Rattle.std.proofs.lemmas.Str.Pattern.{split_parts}
-use Rattle.fanout.proofs.Naming.{opening_cut, opening_end}
+use Rattle.fanout.proofs.NameText.{opening_cut, opening_end}
 use Rattle.fanout.proofs.texts.push_without_parentheses.Goals as goal
 
 pub loop-front-preserved : goal.loop-front-preserved

@@ -2,7 +2,7 @@ use Rattle.std.proofs.Common.{◌≡◌, false, None, sym, ◌∙◌}
 use Rattle.serde_json.specs.Find.{as_str}
 use Rattle.serde_json.specs.View.{view}
 use Rattle.serde_json.specs.Written.{has_float}
-use Rattle.fanout.proofs.Spoken.{item_text-other, has_float-is_whole}
+use Rattle.fanout.proofs.ItemText.{item_text-other, has_float-is_whole}
 use Rattle.fanout.proofs.texts.value_text.Goals as goal
 
 pub returns-in_ok-to_string-in-None : goal.returns-in_ok-to_string-in-None

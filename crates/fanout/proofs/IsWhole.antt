@@ -1,9 +1,9 @@
 -- Whether the values of a list have whole numbers, value by value, and that the items of a sequence have.
-use Rattle.std.proofs.Common.{◌≡◌, ℕ, suc, zero, ◌+◌, ◌<◌, true, false, ◌&&◌, List, [], ◌∷◌, length, get_or, drop, map, arith, refl, sym, ap, ◌∙◌, Option, Some, Result, add-one, Vec, Global, Ok, Err, ◌≤◌}
+use Rattle.std.proofs.Common.{◌≡◌, ℕ, ◌+◌, ◌<◌, true, false, ◌&&◌, List, [], ◌∷◌, length, get_or, drop, map, arith, refl, sym, ap, ◌∙◌, Option, Result, add-one, Vec, Global, Ok, Err, ◌≤◌}
 use Rattle.std.proofs.lemmas.List.{length-map}
-use Rattle.std.specs.Prelude.{nat_le, slice_get, ℤ, IsTrue, IfOk}
+use Rattle.std.specs.Prelude.{nat_le, ℤ, IsTrue, IfOk}
 use Rattle.std.specs.List.{list_all}
-use Rattle.std.proofs.lemmas.Bool.{and_parts, cond-true, cond-false, lt-leb, le-leb}
+use Rattle.std.proofs.lemmas.Bool.{cond-true, cond-false, lt-leb, le-leb}
 use Rattle.tree_types.specs.declared.node.Note.TheVariants as note
 use Rattle.serde_json.specs.Data.{Data}
 use Rattle.scopes.specs.Substitution.{Found, ◌>>=◌}
@@ -13,7 +13,8 @@ use Rattle.serde_json.proofs.Views.{view-Array}
 use Rattle.serde_json.specs.View.{view, items_view, items_of}
 use Rattle.serde_json.specs.declared.value.Value.{Value, Array}
 use Rattle.fanout.specs.Items.{is_whole, are_whole, list_of, few_items, checked_items, items_of_data, number_items, sequence_items}
-use Rattle.fanout.specs.Sequences.{most_items, Format, sequence_texts}
+use Rattle.base_types.specs.Limits.{most_items}
+use Rattle.fanout.specs.Sequences.{Format, sequence_texts}
 use Rattle.std.proofs.Math.Seq.{drop-cons}
 
 pub are_whole-drop : (vs : List Value) (i : ℕ) (d : Value) → i < length vs → are_whole (items_view (drop i vs)) ≡ (is_whole (view (get_or vs i d)) && are_whole (items_view (drop (i + 1) vs)))
@@ -46,15 +47,15 @@ whole_items : (v : Vec Value Global) → are_whole (items_view v.items) ≡ true
 whole_items v good =
     items_of_data-Array v ∙ cond-true (list_all is_whole (map view v.items)) (few_items (map view v.items)) (Err note.BadItem) (list_all-are_whole (map view v.items) ∙ good)
 
-pub many_items : (v : Vec Value Global) → are_whole (items_view v.items) ≡ true → 1000 < length v.items → items_of_data (view (Array v)) ≡ Err note.TooManyItems
+pub many_items : (v : Vec Value Global) → are_whole (items_view v.items) ≡ true → most_items < length v.items → items_of_data (view (Array v)) ≡ Err note.TooManyItems
 many_items v good many =
-    let long : 1000 < length (map view v.items) = omega (arith, length-map {B = Data} v.items view) in
-    whole_items v good ∙ cond-false (nat_le (length (map view v.items)) most_items) (Ok (map view v.items)) (Err note.TooManyItems) (lt-leb (length (map view v.items)) 1000 long)
+    let long : most_items < length (map view v.items) = omega (arith, length-map {B = Data} v.items view) in
+    whole_items v good ∙ cond-false (nat_le (length (map view v.items)) most_items) (Ok (map view v.items)) (Err note.TooManyItems) (lt-leb (length (map view v.items)) most_items long)
 
-pub good_items : (v : Vec Value Global) → are_whole (items_view v.items) ≡ true → length v.items ≤ 1000 → items_of_data (view (Array v)) ≡ Ok (map view v.items)
+pub good_items : (v : Vec Value Global) → are_whole (items_view v.items) ≡ true → length v.items ≤ most_items → items_of_data (view (Array v)) ≡ Ok (map view v.items)
 good_items v good few =
-    let short : length (map view v.items) ≤ 1000 = omega (arith, length-map {B = Data} v.items view) in
-    whole_items v good ∙ cond-true (nat_le (length (map view v.items)) most_items) (Ok (map view v.items)) (Err note.TooManyItems) (le-leb (length (map view v.items)) 1000 short)
+    let short : length (map view v.items) ≤ most_items = omega (arith, length-map {B = Data} v.items view) in
+    whole_items v good ∙ cond-true (nat_le (length (map view v.items)) most_items) (Ok (map view v.items)) (Err note.TooManyItems) (le-leb (length (map view v.items)) most_items short)
 
 -- ---- the items of a sequence have no number
 
@@ -83,12 +84,3 @@ pub sequence_items_whole : (count start end format : Option (List ℕ)) (r : Res
 sequence_items_whole count start end format r told =
     let texts = sequence_texts count start end format in
     told_whole (sequence_items count start end format) r (λ es e. then_whole texts (λ row. Ok (number_items row)) es (λ row. row_whole row es) e) told
-
--- an item of a list whose items are whole
-pub whole_item : (es : List Data) (i : ℕ) (d : Data) → Whole es → slice_get es i ≡ Some d → is_whole d ≡ true
-whole_item [] i d whole e = absurd (cc)
-whole_item (y ∷ es) zero d whole e =
-    let here : Some y ≡ Some d = e in
-    let same : y ≡ d = cc in
-    ap is_whole (sym same) ∙ (and_parts (is_whole y) (list_all is_whole es) whole).0
-whole_item (y ∷ es) (suc i) d whole e = whole_item es i d (and_parts (is_whole y) (list_all is_whole es) whole).1 e

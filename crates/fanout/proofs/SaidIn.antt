@@ -17,7 +17,7 @@ use Rattle.scopes.specs.Substitution.{Found, ◌>>=◌, Scope, said}
 use Rattle.tag_text.specs.Parts.{as_it_stands}
 use Rattle.fanout.specs.Faults.{Tells}
 use Rattle.fanout.specs.declared.refused.FanRefused.{FanRefused}
-use Rattle.fanout.proofs.Telling.{passes}
+use Rattle.fanout.proofs.Tells.{passes}
 use Rattle.fanout.specs.Items.{said_in, said_in_items, said_in_members}
 
 -- ---- lists

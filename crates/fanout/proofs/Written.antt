@@ -1,11 +1,11 @@
 -- Numbers as a format writes them.
 use Rattle.std.proofs.Common.{◌≡◌, ℕ, suc, ◌+◌, ◌-◌, ◌<◌, Bool, true, false, ℤ, ◌+ℤ◌, map, pos, negsuc, ◌<ℤ◌, ◌≤ℤ◌, List, [], ◌∷◌, ◌++◌, length, arith, refl, sym, ◌∙◌, ap, replicate, decimal, append_assoc, nat_abs}
 use Rattle.std.specs.Prelude.{if◌then◌else◌}
-use Rattle.fanout.specs.Rows.{number_from}
+use Rattle.fanout.specs.Inside.Rows.{number_from}
 use Rattle.std.proofs.lemmas.Int.{ints}
 use Rattle.fanout.specs.Sequences.{padded, written, numbers_from}
 use Rattle.serde_json.specs.Data.{Data}
-use Rattle.fanout.specs.Shapes.{plain, around}
+use Rattle.fanout.specs.Inside.Shapes.{plain, around}
 
 pub written-plain : (t : List ℕ) (z : ℤ) → written (plain t) z ≡ t
 written-plain [] z = refl

@@ -8,7 +8,7 @@ use Rattle.serde_json.specs.Data.{Data, null, boolean, number, string, array, ob
 use Rattle.serde_json.specs.Find.{as_object}
 use Rattle.fanout.specs.Items.{is_whole, members_are_whole}
 use Rattle.fanout.specs.ItemTexts.{item_text, pair_texts, without_parentheses}
-use Rattle.fanout.specs.Shapes.{and_pair}
+use Rattle.fanout.specs.Inside.Shapes.{and_pair}
 
 -- ---- a map's members
 

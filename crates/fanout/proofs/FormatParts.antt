@@ -6,7 +6,7 @@ use Rattle.std.proofs.lemmas.Bool.{cond-true, cond-false, cases_Bool, eqb-true, 
 use Rattle.std.proofs.lemmas.List.Sums.{sum_by-cons, sum_by-append}
 use Rattle.tree_types.specs.declared.node.Note.TheVariants as note
 use Rattle.fanout.specs.Sequences.{FormatPart, byte, number, Format, wide_number, behind_percent, and_part, and_rest, format_parts, is_number, checked_format}
-use Rattle.fanout.specs.Shapes.{plain, around, parts_in, number_behind}
+use Rattle.fanout.specs.Inside.Shapes.{plain, around, parts_in, number_behind}
 
 -- ---- enough steps are enough
 
