@@ -14,7 +14,7 @@ use std::alloc::Global;
 use wf_manifest::Json;
 
 /// Gives the tags of an item their values: `item`, and `item.k` for each member `k` of a map. Each item of a loop has
-/// whole numbers alone. After want of memory some of these tags may have them; each other tag has the value that it had.
+/// whole numbers alone. After want of memory some of these tags may have them; each other tag keeps its value.
 pub fn add_item_tags(alloc: Global, scope: &mut Scope, item: &Json) -> Result<(), Memory>
     requires { IsTrue (is_whole item.now) }
     ensures ok { OnOk result (HasValuesOf scope.new (item_tags item.now ++ scope.old)) }

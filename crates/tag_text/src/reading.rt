@@ -10,7 +10,9 @@ use std::alloc::Global;
 // The text before the first place of a mark, and the text after it.
 fn cut_at<'a>(text: &'a str, mark: &str) -> Option<(&'a str, &'a str)>
     requires { mark.now ≢ [] }
-    ensures cut { MatchOption result (cut mark.now text.now ≡ None) (λ x. cut mark.now text.now ≡ Some (x.0.now, x.1.now)) }
+    ensures cut { MatchOption result
+        (cut mark.now text.now ≡ None)
+        (λ x. cut mark.now text.now ≡ Some (x.0.now, x.1.now)) }
     ensures shorter { IfSome result (λ x. length x.1.now < length text.now) }
 {
     text.split_once(mark)
