@@ -47,7 +47,9 @@ the_tags_of_its_task = refl
 abbrev hook_of_each : Manifest
 hook_of_each =
     one_step (codes "h")
-    (record (with_hook (codes "a") (codes "{{item}} is {{steps.a.status}}")) { each = Some (over (codes "u" ∷ codes "v" ∷ [])) })
+    (record (with_hook (codes "a") (codes "{{item}} is {{steps.a.status}}")) {
+      each = Some (over (codes "u" ∷ codes "v" ∷ []));
+    })
     (echo ∷ [])
 
 -- u succeeded, and v failed
@@ -157,7 +159,8 @@ behind_a_missing_output = refl
 -- an argument without a value is an Error of the call, behind which no hook runs
 pub not_behind_an_unresolved_argument : printed
     (one_step (codes "h")
-    (record (call_echo (codes "a") (codes "{{workflow.status}}")) { exit = Some (hook_with (codes "c") []) }) (echo ∷ []))
+    (record (call_echo (codes "a") (codes "{{workflow.status}}")) { exit = Some (hook_with (codes "c") []) })
+    (echo ∷ []))
     (Started ∷ [])
     ≡ codes "workflow h Error"
     ∷ codes "  Error Steps h"
@@ -187,7 +190,8 @@ abbrev telling : Manifest
 telling =
     record (workflow_of (codes "w")
     (template (codes "main") body.Pod
-    ∷ template (codes "tell") (body.Steps ((call_echo (codes "a") (codes "{{workflow.status}}") ∷ []) ∷ [])) ∷ echo ∷ []))
+    ∷ template (codes "tell") (body.Steps ((call_echo (codes "a") (codes "{{workflow.status}}") ∷ []) ∷ []))
+    ∷ echo ∷ []))
     { on_exit = Some (codes "tell") }
 
 -- below the exit handler the tag is Succeeded where the entrypoint is
@@ -205,7 +209,9 @@ it_tells_a_failure = refl
 -- an exit handler with a memoization key that uses the tag
 abbrev keyed_handler : Manifest
 keyed_handler =
-    record (workflow_of (codes "w") (template (codes "main") body.Pod ∷ keyed_by_status ∷ [])) { on_exit = Some (codes "m") }
+    record (workflow_of (codes "w") (template (codes "main") body.Pod ∷ keyed_by_status ∷ [])) {
+      on_exit = Some (codes "m");
+    }
 
 -- there the key has a value, with which its cache is asked
 pub a_key_of_the_exit_handler : wants keyed_handler (Started ∷ settled [] errored ∷ [])
