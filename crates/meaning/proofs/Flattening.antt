@@ -13,7 +13,8 @@ pub lines_then : (parts more : Parts) → lines_below (then_parts parts more) �
 lines_then nothing more = refl
 lines_then (call own inner rest) more =
     let ls : List Line = lines_over own.node own.wants (lines_below inner) in
-    ap (λ (ks : List Line). ls ++ ks) (lines_then rest more) ∙ sym (append_assoc ls (lines_below rest) (lines_below more))
+    let regrouped = sym (append_assoc ls (lines_below rest) (lines_below more)) in
+    ap (λ (ks : List Line). ls ++ ks) (lines_then rest more) ∙ regrouped
 lines_then (may_begin p rest) more = ap (λ (ks : List Line). MayBegin p ∷ ks) (lines_then rest more)
 lines_then (asks w rest) more = ap (λ (ks : List Line). Asks w ∷ ks) (lines_then rest more)
 
@@ -26,11 +27,15 @@ pub lines_hooked : (b h : Made) → lines_in (then_hook b h) ≡ lines_in b ++ l
 lines_hooked b h =
     let ws : List Line = map Asks b.own.wants in
     let below : List Line = lines_below b.parts in
-    let inner : lines_below (then_parts b.parts (row_of (h ∷ []))) ≡ below ++ lines_in h = lines_then b.parts (row_of (h ∷ [])) ∙ ap (λ (ks : List Line). below ++ ks) (append-nil (lines_in h)) in
-    ap (λ (ks : List Line). Stands b.own.node ∷ ks) (ap (λ (ks : List Line). ws ++ ks) inner ∙ sym (append_assoc ws below (lines_in h)))
+    let hook : Parts = row_of (h ∷ []) in
+    let alone = ap (λ (ks : List Line). below ++ ks) (append-nil (lines_in h)) in
+    let inner : lines_below (then_parts b.parts hook) ≡ below ++ lines_in h = lines_then b.parts hook ∙ alone in
+    let regrouped = sym (append_assoc ws below (lines_in h)) in
+    ap (λ (ks : List Line). Stands b.own.node ∷ ks) (ap (λ (ks : List Line). ws ++ ks) inner ∙ regrouped)
 
 -- so do wants that are asked for behind calls
-pub lines_tried : (parts : Parts) (ws : List Want) → lines_below (then_parts parts (asked ws)) ≡ lines_below parts ++ map Asks ws
+pub lines_tried : (parts : Parts) (ws : List Want)
+    → lines_below (then_parts parts (asked ws)) ≡ lines_below parts ++ map Asks ws
 lines_tried parts ws = lines_then parts (asked ws) ∙ ap (λ (ks : List Line). lines_below parts ++ ks) (lines_asked ws)
 
 -- ---- the calls among parts
@@ -41,6 +46,7 @@ row_in_row (m ∷ ms) = ap (λ (ns : List Made). m ∷ ns) (row_in_row ms)
 
 pub row_in_then : (parts more : Parts) → row_in (then_parts parts more) ≡ row_in parts ++ row_in more
 row_in_then nothing more = refl
-row_in_then (call own inner rest) more = ap (λ (ns : List Made). record { own = own; parts = inner } ∷ ns) (row_in_then rest more)
+row_in_then (call own inner rest) more =
+    ap (λ (ns : List Made). record { own = own; parts = inner } ∷ ns) (row_in_then rest more)
 row_in_then (may_begin p rest) more = row_in_then rest more
 row_in_then (asks w rest) more = row_in_then rest more

@@ -63,7 +63,8 @@ an_argument_that_no_input_takes = refl
 abbrev with_arguments : Manifest
 with_arguments =
     record (workflow_of (codes "w")
-    (record (template (codes "main") (body.Steps ((call_echo (codes "a") (codes "<{{workflow.parameters.p}}>") ∷ []) ∷ []))) {
+    (record (template (codes "main")
+    (body.Steps ((call_echo (codes "a") (codes "<{{workflow.parameters.p}}>") ∷ []) ∷ []))) {
       inputs = input (codes "p") ∷ [];
       outputs = declared_from (codes "o") (codes "{{inputs.parameters.p}}") ∷ [];
     } ∷ echo ∷ [])) {
@@ -94,7 +95,8 @@ the_exit_handler_takes_x = refl
 -- a, whose pod has no result, and then b
 abbrev behind_a : Call → Template → Manifest
 behind_a b t =
-    workflow_of (codes "w") (template (codes "main") (body.Steps ((call (codes "a") ∷ []) ∷ (b ∷ []) ∷ [])) ∷ container ∷ t ∷ [])
+    workflow_of (codes "w")
+    (template (codes "main") (body.Steps ((call (codes "a") ∷ []) ∷ (b ∷ []) ∷ [])) ∷ container ∷ t ∷ [])
 
 abbrev a_succeeded : List Fact
 a_succeeded = Started ∷ settled (Group 0 ∷ Step 0 ∷ []) succeeded ∷ []
@@ -102,7 +104,8 @@ a_succeeded = Started ∷ settled (Group 0 ∷ Step 0 ∷ []) succeeded ∷ []
 -- of two arguments with an unresolved tag the first one is told, though no input takes it; the kind is that of e
 pub an_unresolved_argument : printed
     (behind_a (call_with (codes "b") (codes "e")
-    (argument (codes "q") (codes "{{steps.a.outputs.result}}") ∷ argument (codes "x") (codes "{{workflow.status}}") ∷ []))
+    (argument (codes "q") (codes "{{steps.a.outputs.result}}")
+    ∷ argument (codes "x") (codes "{{workflow.status}}") ∷ []))
     echo)
     a_succeeded
     ≡ codes "workflow w Error"
@@ -150,7 +153,8 @@ a_default_that_is_not_taken = refl
 -- the condition is false, so the unresolved argument is not looked at
 pub a_condition_before_arguments : printed
     (one_step (codes "w")
-    (record (call_echo (codes "a") (codes "{{workflow.status}}")) { when = Some (parts_of (codes "1 == 2")) }) (echo ∷ []))
+    (record (call_echo (codes "a") (codes "{{workflow.status}}")) { when = Some (parts_of (codes "1 == 2")) })
+    (echo ∷ []))
     (Started ∷ [])
     ≡ codes "workflow w Succeeded"
     ∷ codes "  Succeeded Steps w"

@@ -27,7 +27,9 @@ with_targets names =
     (body.Dag (record {
       targets = names;
       fail_fast = false;
-      tasks = task (call (codes "A")) ∷ task_if (call (codes "B")) (has (codes "A") depends.failed) ∷ task (call (codes "C")) ∷ [];
+      tasks = task (call (codes "A"))
+          ∷ task_if (call (codes "B")) (has (codes "A") depends.failed)
+          ∷ task (call (codes "C")) ∷ [];
     }))
 
 -- C is neither a target nor an ancestor of one, so it does not exist; the failure of A is not of a target
@@ -41,7 +43,8 @@ unfolding digits
 one_target = refl
 
 -- where A is a target too, its failure is the DAG's
-pub two_targets : printed (with_targets (codes "A" ∷ codes "B" ∷ [])) (Started ∷ ended 0 failed ∷ ended 1 succeeded ∷ [])
+pub two_targets : printed (with_targets (codes "A" ∷ codes "B" ∷ []))
+    (Started ∷ ended 0 failed ∷ ended 1 succeeded ∷ [])
     ≡ codes "workflow t Failed"
     ∷ codes "  Failed DAG t"
     ∷ codes "    Failed Pod t.A"
@@ -229,7 +232,8 @@ tags_of_ancestors = refl
 abbrev chain : List Task → Manifest
 chain more =
     dag_workflow (codes "c")
-    (task (call (codes "A")) ∷ task_after (codes "B") (codes "A" ∷ []) ∷ task_after (codes "C") (codes "B" ∷ []) ∷ more) []
+    (task (call (codes "A")) ∷ task_after (codes "B") (codes "A" ∷ [])
+    ∷ task_after (codes "C") (codes "B" ∷ []) ∷ more) []
 
 -- C is the only target: the branch of an omitted task is the worst of those before it, here through two of them
 pub a_failure_comes_through : printed (chain []) (Started ∷ ended 0 failed ∷ [])

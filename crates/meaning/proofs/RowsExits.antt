@@ -5,7 +5,7 @@ use Rattle.std.specs.Prelude.{ℕ, List, [], ◌∷◌, Some, None, codes}
 use Rattle.serde_json.proofs.OnLiterals.{serde_json_on_literals}
 use Rattle.tree_types.specs.declared.path.Sel.TheVariants.{Main, Exit, Group, Step, Task as task_sel, Item}
 use Rattle.tree_types.specs.declared.fact.Fact.{Fact}
-use Rattle.tree_types.specs.declared.fact.Fact.TheVariants.{Started}
+use Rattle.tree_types.specs.declared.fact.Fact.TheVariants.{Started, Memo}
 use Rattle.tree_types.specs.declared.want.Want.TheVariants as want
 use Rattle.tag_text.specs.Parts.{parts_of}
 use Rattle.wf_manifest.specs.declared.calls.Call.{Call}
@@ -13,6 +13,7 @@ use Rattle.wf_manifest.specs.declared.templates.Template.{Template}
 use Rattle.wf_manifest.specs.declared.templates.Body.TheVariants as body
 use Rattle.wf_manifest.specs.declared.manifest.Manifest.{Manifest}
 use Rattle.meaning.specs.Answers.{path}
+use Rattle.meaning.specs.Lines.{no_outputs}
 use Rattle.meaning.specs.Trees.{wants}
 use Rattle.meaning.proofs.Samples.{template, workflow_of, workflow, call, call_with, over, hook_with, task, one_step, dag_workflow, argument, declared, param, echo, call_echo, succeeded, failed, errored, settled, printed, params_at}
 
@@ -47,7 +48,9 @@ the_tags_of_its_task = refl
 abbrev hook_of_each : Manifest
 hook_of_each =
     one_step (codes "h")
-    (record (with_hook (codes "a") (codes "{{item}} is {{steps.a.status}}")) { each = Some (over (codes "u" ∷ codes "v" ∷ [])) })
+    (record (with_hook (codes "a") (codes "{{item}} is {{steps.a.status}}")) {
+      each = Some (over (codes "u" ∷ codes "v" ∷ []));
+    })
     (echo ∷ [])
 
 -- u succeeded, and v failed
@@ -154,10 +157,50 @@ pub behind_a_missing_output : printed
 unfolding digits
 behind_a_missing_output = refl
 
+-- so is a bad duration
+pub behind_a_bad_duration : printed
+    (c_behind (codes "s") (template (codes "s") (body.Suspend (Some (parts_of (codes "5x")))) ∷ [])) (Started ∷ [])
+    ≡ codes "workflow h Running"
+    ∷ codes "  Running Steps h"
+    ∷ codes "    Running StepGroup h[0]"
+    ∷ codes "      Error Suspend h[0].a -- bad duration"
+    ∷ codes "        Running Pod h[0].a.onExit"
+    ∷ []
+unfolding digits
+behind_a_bad_duration = refl
+
+-- a memoized container
+abbrev memoized : Template
+memoized = record (template (codes "m") body.Pod) {
+  memoize = Some (record { key = parts_of (codes "k"); max_age = None; cache = codes "mc" });
+}
+
+-- behind a hit the hook runs too
+pub behind_a_hit : printed (c_behind (codes "m") (memoized ∷ []))
+    (Started ∷ Memo (path (Main ∷ Group 0 ∷ Step 0 ∷ [])) (Some no_outputs) ∷ [])
+    ≡ codes "workflow h Running"
+    ∷ codes "  Running Steps h"
+    ∷ codes "    Running StepGroup h[0]"
+    ∷ codes "      Succeeded Pod h[0].a -- hit mc k"
+    ∷ codes "        Running Pod h[0].a.onExit"
+    ∷ []
+unfolding digits
+behind_a_hit = refl
+
+-- a node that missed is saved where it stands: before what its hook asks for
+pub a_save_before_the_hook : wants (c_behind (codes "m") (memoized ∷ []))
+    (Started ∷ Memo (path (Main ∷ Group 0 ∷ Step 0 ∷ [])) None ∷ settled (Group 0 ∷ Step 0 ∷ []) succeeded ∷ [])
+    ≡ want.Save (path (Main ∷ Group 0 ∷ Step 0 ∷ [])) (codes "mc") (codes "k") no_outputs
+    ∷ want.Pod (path (Main ∷ Group 0 ∷ Step 0 ∷ Exit ∷ []))
+    ∷ []
+unfolding digits
+a_save_before_the_hook = refl
+
 -- an argument without a value is an Error of the call, behind which no hook runs
 pub not_behind_an_unresolved_argument : printed
     (one_step (codes "h")
-    (record (call_echo (codes "a") (codes "{{workflow.status}}")) { exit = Some (hook_with (codes "c") []) }) (echo ∷ []))
+    (record (call_echo (codes "a") (codes "{{workflow.status}}")) { exit = Some (hook_with (codes "c") []) })
+    (echo ∷ []))
     (Started ∷ [])
     ≡ codes "workflow h Error"
     ∷ codes "  Error Steps h"
@@ -187,7 +230,8 @@ abbrev telling : Manifest
 telling =
     record (workflow_of (codes "w")
     (template (codes "main") body.Pod
-    ∷ template (codes "tell") (body.Steps ((call_echo (codes "a") (codes "{{workflow.status}}") ∷ []) ∷ [])) ∷ echo ∷ []))
+    ∷ template (codes "tell") (body.Steps ((call_echo (codes "a") (codes "{{workflow.status}}") ∷ []) ∷ []))
+    ∷ echo ∷ []))
     { on_exit = Some (codes "tell") }
 
 -- below the exit handler the tag is Succeeded where the entrypoint is
@@ -205,7 +249,9 @@ it_tells_a_failure = refl
 -- an exit handler with a memoization key that uses the tag
 abbrev keyed_handler : Manifest
 keyed_handler =
-    record (workflow_of (codes "w") (template (codes "main") body.Pod ∷ keyed_by_status ∷ [])) { on_exit = Some (codes "m") }
+    record (workflow_of (codes "w") (template (codes "main") body.Pod ∷ keyed_by_status ∷ [])) {
+      on_exit = Some (codes "m");
+    }
 
 -- there the key has a value, with which its cache is asked
 pub a_key_of_the_exit_handler : wants keyed_handler (Started ∷ settled [] errored ∷ [])

@@ -23,14 +23,15 @@ locked name = record (template name body.Pod) {
 abbrev hooked : List ℕ → List ℕ → Call
 hooked name template = record (call_with name template []) { exit = Some (hook_with (codes "l2") []) }
 
--- two groups: the step a of l1, and a looped step b of l1, each with an exit hook of l2; then a step d of a DAG with the
--- mutex g, whose task T is of l2; and the exit handler is of l1
+-- two groups: the step a of l1, and a looped step b of l1, each with an exit hook of l2; then a step d of a DAG with
+-- the mutex g, whose task T is of l2; and the exit handler is of l1
 abbrev many_locks : Manifest
 many_locks =
     record (workflow_of (codes "w")
     (template (codes "main")
     (body.Steps
-    ((hooked (codes "a") (codes "l1") ∷ record (hooked (codes "b") (codes "l1")) { each = Some (over (codes "x" ∷ [])) } ∷ [])
+    ((hooked (codes "a") (codes "l1")
+    ∷ record (hooked (codes "b") (codes "l1")) { each = Some (over (codes "x" ∷ [])) } ∷ [])
     ∷ (hooked (codes "d") (codes "g") ∷ []) ∷ []))
     ∷ record (template (codes "g")
     (body.Dag (record { targets = []; fail_fast = true; tasks = task (call_with (codes "T") (codes "l2") []) ∷ [] })))

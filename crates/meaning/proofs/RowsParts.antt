@@ -45,7 +45,11 @@ steps = refl
 abbrev two_tasks : Manifest
 two_tasks =
     workflow (codes "d")
-    (body.Dag (record { targets = []; fail_fast = true; tasks = task (call (codes "A")) ∷ task (call (codes "B")) ∷ [] }))
+    (body.Dag (record {
+      targets = [];
+      fail_fast = true;
+      tasks = task (call (codes "A")) ∷ task (call (codes "B")) ∷ [];
+    }))
 
 abbrev b_runs : Parts
 b_runs = row_of (pod (task_sel 1 ∷ []) (codes "d.B") 2 ∷ [])
@@ -79,7 +83,9 @@ abbrev hooked : Manifest
 hooked =
     workflow (codes "h")
     (body.Steps
-    ((record (call (codes "a")) { exit = Some (record { template = codes "c"; arguments = []; short = true }) } ∷ []) ∷ []))
+    ((record (call (codes "a")) {
+      exit = Some (record { template = codes "c"; arguments = []; short = true });
+    } ∷ []) ∷ []))
 
 abbrev a_failed : Made
 a_failed =

@@ -84,7 +84,9 @@ abbrev failing : List ℕ → Option Outcome
 failing name = if bytes_eq name (codes "w[0].a") then Some succeeded else Some failed
 
 abbrev two_groups : Manifest
-two_groups = workflow (codes "w") (body.Steps ((call (codes "a") ∷ []) ∷ (call (codes "b") ∷ call (codes "c") ∷ []) ∷ []))
+two_groups =
+    workflow (codes "w")
+    (body.Steps ((call (codes "a") ∷ []) ∷ (call (codes "b") ∷ call (codes "c") ∷ []) ∷ []))
 
 -- each pod has the outcome that is planned for its name
 pub of_a_default : map node_line (plain two_groups failing)

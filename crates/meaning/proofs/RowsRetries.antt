@@ -92,7 +92,9 @@ on_transient_error_after_a_failure = refl
 abbrev lacking : Policy → Manifest
 lacking policy =
     workflow_of (codes "r")
-    (record (retried (record { limit = Some 1; policy = policy; backoff = None })) { outputs = declared (codes "q") None ∷ [] } ∷ [])
+    (record (retried (record { limit = Some 1; policy = policy; backoff = None })) {
+      outputs = declared (codes "q") None ∷ [];
+    } ∷ [])
 
 -- it is tried again as an Error is
 pub a_missing_output_is_tried_again : printed (lacking OnError) (Started ∷ ended 0 succeeded ∷ [])

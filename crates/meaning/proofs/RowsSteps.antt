@@ -70,7 +70,8 @@ a_running_member = refl
 
 -- behind a group with a failure that is not covered no group exists
 pub a_failure_ends_the_steps : printed
-    (workflow (codes "wf") (body.Steps ((call (codes "a") ∷ []) ∷ (call (codes "b") ∷ []) ∷ (call (codes "c") ∷ []) ∷ [])))
+    (workflow (codes "wf")
+    (body.Steps ((call (codes "a") ∷ []) ∷ (call (codes "b") ∷ []) ∷ (call (codes "c") ∷ []) ∷ [])))
     (Started ∷ settled (Group 0 ∷ Step 0 ∷ []) succeeded ∷ settled (Group 1 ∷ Step 0 ∷ []) failed ∷ [])
     ≡ codes "workflow wf Failed"
     ∷ codes "  Failed Steps wf"

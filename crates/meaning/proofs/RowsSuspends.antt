@@ -71,7 +71,9 @@ it_still_waits = refl
 abbrev with_p : Manifest
 with_p =
     workflow_of (codes "u")
-    (record (template (codes "main") (body.Suspend None)) { outputs = declared (codes "p") (Some (codes "1")) ∷ [] } ∷ [])
+    (record (template (codes "main") (body.Suspend None)) {
+      outputs = declared (codes "p") (Some (codes "1")) ∷ [];
+    } ∷ [])
 
 abbrev with_q : Manifest
 with_q =
@@ -79,7 +81,8 @@ with_q =
     (record (template (codes "main") (body.Suspend None)) { outputs = declared (codes "q") None ∷ [] } ∷ [])
 
 -- once it is over, each output is its default
-pub a_default : params_at (codes "u") with_p (Started ∷ Resumed (path (Main ∷ [])) ∷ []) ≡ param (codes "p") (codes "1") ∷ []
+pub a_default : params_at (codes "u") with_p (Started ∷ Resumed (path (Main ∷ [])) ∷ [])
+    ≡ param (codes "p") (codes "1") ∷ []
 unfolding digits
 a_default = refl
 

@@ -32,7 +32,7 @@ declaring ds b ts = workflow_of (codes "w") (record (template (codes "main") b) 
 abbrev a_then_b : Body
 a_then_b = body.Steps ((call (codes "a") ∷ []) ∷ (call_when (codes "b") (codes "1 == 2") ∷ []) ∷ [])
 
--- a value where the tag has one, else the default; the tags of all its steps may stand there, and more than one in a text
+-- a value where the tag has one, else the default; the tags of all its steps may stand there, and several in a text
 abbrev of_steps : List OutputDecl
 of_steps =
     from_or (codes "r") (codes "{{steps.a.outputs.result}}") (codes "1")
@@ -178,7 +178,9 @@ an_item_runs = refl
 
 -- a has no result, so the condition of b is at fault, with the kind of its template
 pub an_unresolved_condition : printed
-    (declaring [] (body.Steps ((call (codes "a") ∷ []) ∷ (call_when (codes "b") (codes "{{steps.a.outputs.result}} == 1") ∷ []) ∷ [])) [])
+    (declaring []
+    (body.Steps
+    ((call (codes "a") ∷ []) ∷ (call_when (codes "b") (codes "{{steps.a.outputs.result}} == 1") ∷ []) ∷ [])) [])
     (Started ∷ settled (Group 0 ∷ Step 0 ∷ []) succeeded ∷ [])
     ≡ codes "workflow w Error"
     ∷ codes "  Error Steps w"

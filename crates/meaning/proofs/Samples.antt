@@ -145,13 +145,37 @@ mutex name = record { text = codes "mutex/" ++ name }
 -- ---- facts
 
 abbrev pub succeeded : Outcome
-succeeded = record { phase = Succeeded; result = None; params = []; transient = false; begin = 0; finish = 0; ended = refl }
+succeeded = record {
+  phase = Succeeded;
+  result = None;
+  params = [];
+  transient = false;
+  begin = 0;
+  finish = 0;
+  ended = refl;
+}
 
 abbrev pub failed : Outcome
-failed = record { phase = Failed; result = None; params = []; transient = false; begin = 0; finish = 0; ended = refl }
+failed = record {
+  phase = Failed;
+  result = None;
+  params = [];
+  transient = false;
+  begin = 0;
+  finish = 0;
+  ended = refl;
+}
 
 abbrev pub errored : Outcome
-errored = record { phase = Error; result = None; params = []; transient = false; begin = 0; finish = 0; ended = refl }
+errored = record {
+  phase = Error;
+  result = None;
+  params = [];
+  transient = false;
+  begin = 0;
+  finish = 0;
+  ended = refl;
+}
 
 abbrev pub settled : List Sel → Outcome → Fact
 settled p o = Settled (path (Main ∷ p)) o

@@ -47,7 +47,10 @@ pub record Ending : Type 0 where
   pub lack : Option (List ℕ)
 
 abbrev pub ending_with : (OutputDecl → Option (List ℕ)) → List OutputDecl → Ending
-ending_with value ds = record { outputs = record { result = None; params = found value ds }; lack = first_lack value ds }
+ending_with value ds = record {
+  outputs = record { result = None; params = found value ds };
+  lack = first_lack value ds;
+}
 
 -- ---- a pod: its outcome's outputs, and behind them the defaults of those that it lacks
 
