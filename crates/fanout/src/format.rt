@@ -9,7 +9,7 @@ use crate::FanRefused;
 use base_types::{Memory, Text, TryCopy};
 use std::alloc::Global;
 
-/// A format that is read: text, the place of the number with its width, and text.
+// A format that is read: text, the place of the number with its width, and text.
 #[derive(Drop)]
 pub(crate) struct Format {
     pub before: Text,
@@ -17,7 +17,7 @@ pub(crate) struct Format {
     pub after: Text,
 }
 
-/// Text with exactly one `%d` or `%0Nd`, and `%%` for a percent sign.
+// Text with exactly one `%d` or `%0Nd`, and `%%` for a percent sign.
 pub(crate) fn read_format(alloc: Global, text: &str) -> Result<Format, FanRefused>
     ensures { Tells parts_of_shape result (format_of text.now) }
 {
@@ -86,7 +86,7 @@ fn read_width(text: &str) -> Option<(usize, &str)>
     Some(((digit - b'0') as usize, rest))
 }
 
-/// A number as a format writes it.
+// A number as a format writes it.
 pub(crate) fn write_number(format: &Format, number: i64) -> Result<Text, Memory>
     ensures { IfOk result (λ text. text ≡ written (parts_of_shape format.now) number) }
 {

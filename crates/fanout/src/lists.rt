@@ -13,7 +13,7 @@ use serde_json::{Map, Value};
 use std::alloc::Global;
 use wf_manifest::Json;
 
-/// The items that a text says as a JSON list.
+// The items that a text says as a JSON list.
 pub(crate) fn read_items(alloc: Global, text: &str) -> Result<Items, FanRefused>
     ensures { Tells (λ items. items) result (items_of_read (read text.now)) }
 {
@@ -24,7 +24,7 @@ pub(crate) fn read_items(alloc: Global, text: &str) -> Result<Items, FanRefused>
     }
 }
 
-/// The items of a JSON list.
+// The items of a JSON list.
 pub(crate) fn items_of(alloc: Global, value: Value) -> Result<Items, FanRefused>
     ensures { Tells (λ items. items) result (items_of_data (view value)) }
 {

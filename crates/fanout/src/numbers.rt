@@ -13,7 +13,7 @@ const MOST_DIGITS: usize = 13;
 
 const MOST_NUMBER: u64 = 1_000_000_000_000;
 
-/// An optional minus sign and 1 to 13 digits, from minus to plus 1,000,000,000,000.
+// An optional minus sign and 1 to 13 digits, from minus to plus 1,000,000,000,000.
 pub(crate) fn read_whole(text: &str) -> Result<i64, FanRefused>
     ensures told { Tells (λ z. z) result (whole_of text.now) }
     ensures near { IfOk result IsNear }

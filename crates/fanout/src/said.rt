@@ -13,7 +13,7 @@ use serde_json::{Map, Value};
 use std::alloc::Global;
 use tag_text::{TagRefused, TagText, parse_tags};
 
-/// What a text with tags says.
+// What a text with tags says.
 pub(crate) fn said_text(text: &TagText, scope: &Scope) -> Result<Text, FanRefused>
     ensures { Tells (λ text. text) result (said scope.now text.now) }
 {
@@ -24,7 +24,7 @@ pub(crate) fn said_text(text: &TagText, scope: &Scope) -> Result<Text, FanRefuse
     }
 }
 
-/// What a text says that may be absent.
+// What a text says that may be absent.
 pub(crate) fn said_or_none(
     text: &Option<TagText>,
     scope: &Scope,
@@ -48,7 +48,7 @@ fn said_string(alloc: Global, text: &str, scope: &Scope) -> Result<Text, FanRefu
     }
 }
 
-/// A JSON value whose texts are substituted, in lists and maps too; keys are not.
+// A JSON value whose texts are substituted, in lists and maps too; keys are not.
 #[cycle(said)]
 pub(crate) fn said_value(alloc: Global, value: &Value, scope: &Scope) -> Result<Value, FanRefused>
     ensures { Tells view result (said_in scope.now (view value.now)) }

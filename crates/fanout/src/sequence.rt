@@ -18,7 +18,7 @@ use serde_json::Value;
 use std::alloc::Global;
 use wf_manifest::Json;
 
-/// So many numbers from a first one on, each one more than the one before it, or one less.
+// So many numbers from a first one on, each one more than the one before it, or one less.
 #[derive(Clone, Copy)]
 pub(crate) struct Row {
     pub count: u64,
@@ -26,7 +26,7 @@ pub(crate) struct Row {
     pub first: i64,
 }
 
-/// The row of `count` and `start`, or of `start` and `end`.
+// The row of `count` and `start`, or of `start` and `end`.
 pub(crate) fn read_row(
     count: &Option<Text>,
     start: &Option<Text>,
@@ -76,7 +76,7 @@ fn row_between(first: i64, last: i64) -> Row
     }
 }
 
-/// The items of a sequence, each a number as its format writes it.
+// The items of a sequence, each a number as its format writes it.
 pub(crate) fn sequence_items(
     alloc: Global,
     count: &Option<Text>,

@@ -5,8 +5,8 @@ ghost use Rattle.tree_types.specs.Texts.{escape as escape_of, byte_text, escaped
 
 use base_types::{Bytes, Memory};
 
-/// Adds a text of which control bytes, byte 127 and the backslash are written as `\x` and two lower-case hexadecimal
-/// digits.
+// Adds a text of which control bytes, byte 127 and the backslash are written as `\x` and two lower-case hexadecimal
+// digits.
 pub(crate) fn push_escaped(line: &mut Bytes, text: &str) -> Result<(), Memory>
     ensures { OnOk result (line.new ≡ line.old ++ escaped text.now) }
 {

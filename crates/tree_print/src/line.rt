@@ -9,7 +9,7 @@ use crate::note::push_note;
 use base_types::{Bytes, Memory, Text};
 use tree_types::{Kind, Node, Phase};
 
-/// Adds the line of a workflow, and a line feed.
+// Adds the line of a workflow, and a line feed.
 pub(crate) fn push_workflow(text: &mut Bytes, name: &Text, phase: Phase) -> Result<(), Memory>
     ensures { OnOk result (text.new ≡ text.old ++ (workflow_line name.now phase ++ 10 ∷ [])) }
 {
@@ -20,7 +20,7 @@ pub(crate) fn push_workflow(text: &mut Bytes, name: &Text, phase: Phase) -> Resu
     text.push(b'\n')
 }
 
-/// Adds the line of a node, and a line feed.
+// Adds the line of a node, and a line feed.
 pub(crate) fn push_node(text: &mut Bytes, node: &Node) -> Result<(), Memory>
     ensures { OnOk result (text.new ≡ text.old ++ (node_line node.now ++ 10 ∷ [])) }
 {

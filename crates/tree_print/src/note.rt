@@ -7,7 +7,7 @@ use crate::escape::push_escaped;
 use base_types::{Bytes, Memory, Text};
 use tree_types::Note;
 
-/// Adds a separator and the note's text; nothing where there is no note.
+// Adds a separator and the note's text; nothing where there is no note.
 pub(crate) fn push_note(line: &mut Bytes, note: &Note) -> Result<(), Memory>
     ensures { OnOk result (line.new ≡ line.old ++ note_end note.now) }
 {
