@@ -1,7 +1,7 @@
 -- Fronts of lists.
 use Rattle.std.specs.Prelude.{◌≡◌, ℕ, zero, suc, ◌+◌, List, [], ◌∷◌, ◌++◌, take, slice_get, Some}
 use Rattle.std.proofs.Common.{ap, sym, ◌∙◌, add-one}
-use Rattle.depends_expr.proofs.Held.{none_some, some_same}
+use Rattle.connectives.proofs.Options.{none_some, some_same}
 
 pub got_take : {A : Type 0} (xs : List A) (i : ℕ) (x : A) → slice_get xs i ≡ Some x → take (suc i) xs ≡ take i xs ++ x ∷ []
 got_take [] i x p = absurd (none_some p)

@@ -2,8 +2,8 @@
 use Rattle.std.specs.Prelude.{◌≡◌, ◌<◌, [], ◌∷◌, length, false, ◌==◌, refl, None}
 use Rattle.std.proofs.Common.{arith}
 use Rattle.std.proofs.lemmas.Bool.{cond_both}
-use Rattle.depends_expr.specs.Grammar.{Text}
-use Rattle.depends_expr.specs.Inside.Reading.{behind, is_found}
+use Rattle.connectives.specs.Grammar.{Text}
+use Rattle.depends_expr.specs.Inside.Operands.{behind, is_found}
 
 pub too_long : (p t : Text) → length t < length p → false ≡ is_found (behind p t)
 too_long [] t h = absurd (omega arith)

@@ -1,7 +1,6 @@
 -- What speaks of the crate's own code alone.
-pub mod Reading
+pub mod Operands
 pub mod Postfix
 pub mod View
-pub mod Drafts
 pub mod Numbering
 pub mod Values

@@ -4,15 +4,17 @@ ghost use Rattle.std.specs.Prelude.{◌≡◌, ◌≢◌, ℕ, ◌<◌, ◌≤�
 ghost use Rattle.depends_expr.specs.declared.results.TaskResult.{TaskResult as Results};
 ghost use Rattle.depends_expr.specs.declared.refused.DependsRefused.TheVariants as refused;
 ghost use Rattle.depends_expr.specs.Truth.{truth, names_of};
-ghost use Rattle.depends_expr.specs.Grammar.{IsDepends, IsBadAt};
+ghost use Rattle.connectives.specs.Grammar.{IsBadAt};
+ghost use Rattle.depends_expr.specs.Grammar.{IsDepends, depends_language};
 ghost use Rattle.depends_expr.specs.Inside.View.{peak};
 
 use crate::evaluation::evaluate;
 use crate::numbering::number;
-use crate::reading::read;
+use crate::operands::Inner;
 use crate::steps::{Draft, Step};
 use crate::{DependsRefused, TaskResult};
 use base_types::{List, Memory, Names, TryCopy};
+use connectives::read;
 use std::alloc::Global;
 use std::marker::Model;
 
@@ -74,15 +76,18 @@ impl Depends {
 }
 
 /// Reads a `depends`. Chains of `&&` and of `||` are nested to the left.
-#[tactic(auto, using(crate::proofs::Held::meant, crate::proofs::Fronts::bad, crate::proofs::Peaks::low))]
+#[tactic(auto, using(crate::proofs::OperandFacts::meant, crate::proofs::OperandFacts::bad))]
 pub fn parse_depends(alloc: Global, text: &str) -> Result<Depends, DependsRefused>
     // What is read is of the grammar, and says what the text says.
     ensures ok { IfOk result (λ depends. IsDepends text.now depends) }
     // A text is refused where it is not of the grammar, at its fault, or where there is no memory.
-    ensures bad { IfErr result (λ e. e ≢ refused.Memory → (place : ℕ) × (e ≡ refused.Bad place) × IsBadAt text.now place) }
+    ensures bad { IfErr result (λ e. e ≢ refused.Memory →
+        (place : ℕ) × (e ≡ refused.Bad place) × IsBadAt depends_language text.now place) }
 {
-    let draft = read(alloc, text.as_bytes())?;
-    Ok(Depends::from_draft(alloc, draft)?)
+    match read::<Draft, Inner>(alloc, text.as_bytes())? {
+        Ok(draft) => Ok(Depends::from_draft(alloc, draft)?),
+        Err(place) => Err(DependsRefused::Bad { place }),
+    }
 }
 
 /// Whether the expression is true, where the results are those of the tasks that it names, in the order of the names.

@@ -3,12 +3,14 @@
 
 pub mod depends;
 mod evaluation;
+mod following;
 pub mod law;
 mod names;
 mod numbering;
-mod reading;
+mod operands;
 mod refused;
 pub mod results;
+mod spelling;
 mod steps;
 
 pub use depends::{Depends, eval, parse_depends};

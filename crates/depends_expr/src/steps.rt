@@ -2,7 +2,7 @@
 //! recursion.
 
 ghost use Rattle.std.specs.Prelude.{◌≡◌, ◌++◌, ◌∷◌, [], IfOk};
-ghost use Rattle.depends_expr.specs.Expression.{bare, has, negation, both, either};
+ghost use Rattle.depends_expr.specs.Expression.{bare, has};
 ghost use Rattle.depends_expr.specs.Grammar.{spelling};
 ghost use Rattle.depends_expr.specs.Inside.Postfix.{word_of};
 
@@ -112,28 +112,28 @@ impl Draft {
         steps.push(Step::Has(name, outcome))?;
         Ok(Draft { steps })
     }
+}
+
+impl connectives::Draft for Draft {
+    ghost use Rattle.depends_expr.specs.Grammar.{depends_joins};
+
+    ghost joins = { depends_joins };
 
     #[tactic(auto, using(crate::proofs::Postfixes::negation_steps))]
-    pub(crate) fn negation(self) -> Result<Draft, Memory>
-        ensures { IfOk result (λ draft. draft ≡ negation self) }
-    {
+    fn negated(self) -> Result<Draft, Memory> {
         let mut steps = self.steps;
         steps.push(Step::Not)?;
         Ok(Draft { steps })
     }
 
     #[tactic(auto, using(crate::proofs::Postfixes::both_steps))]
-    pub(crate) fn both(self, right: Draft) -> Result<Draft, Memory>
-        ensures { IfOk result (λ draft. draft ≡ both self right) }
-    {
+    fn all_of(self, right: Draft) -> Result<Draft, Memory> {
         let steps = joined(self.steps, right.steps, Step::And)?;
         Ok(Draft { steps })
     }
 
     #[tactic(auto, using(crate::proofs::Postfixes::either_steps))]
-    pub(crate) fn either(self, right: Draft) -> Result<Draft, Memory>
-        ensures { IfOk result (λ draft. draft ≡ either self right) }
-    {
+    fn any_of(self, right: Draft) -> Result<Draft, Memory> {
         let steps = joined(self.steps, right.steps, Step::Or)?;
         Ok(Draft { steps })
     }

@@ -1,10 +1,9 @@
 mod Rows
-pub mod Bytes
-pub mod Taken
-pub mod Held
-pub mod Fronts
+pub mod Letters
+pub mod OperandsHeld
+pub mod OperandsTaken
+pub mod OperandFacts
 pub mod Postfixes
 pub mod Peaks
-pub mod Negations
 pub mod Evaluations
 pub mod Digits

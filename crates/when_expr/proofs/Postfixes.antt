@@ -10,7 +10,7 @@ use Rattle.when_expr.specs.declared.steps.Side.TheVariants as s
 use Rattle.when_expr.specs.Expression.{Order, equal, unequal, below, at_most, above, at_least, Term, quoted, word, Condition, literal, test, negated, all_of, any_of}
 use Rattle.when_expr.specs.Inside.Postfix.{order_of, comparison_of, term_of, side_of, postfix, built, top, condition_of, peak, IsWhole}
 
-order_again : (o : Order) → order_of (comparison_of o) ≡ o
+pub order_again : (o : Order) → order_of (comparison_of o) ≡ o
 order_again equal = refl
 order_again unequal = refl
 order_again below = refl
@@ -18,7 +18,7 @@ order_again at_most = refl
 order_again above = refl
 order_again at_least = refl
 
-term_again : (t : Term) → term_of (side_of t) ≡ t
+pub term_again : (t : Term) → term_of (side_of t) ≡ t
 term_again (quoted t) = refl
 term_again (word t) = refl
 

@@ -1,7 +1,9 @@
 -- Conditions of texts, by the definitions alone.
 use Rattle.std.specs.Prelude.{◌≡◌, refl, codes, Some, None, true}
 use Rattle.when_expr.specs.Expression.{equal, below, quoted, word, test, negated, all_of}
-use Rattle.when_expr.specs.Inside.Reading.{start, place}
+use Rattle.connectives.specs.Reading.{start, place}
+use Rattle.when_expr.specs.Grammar.{when_joins}
+use Rattle.when_expr.specs.Inside.Operands.{when_machine}
 use Rattle.when_expr.specs.Meaning.{when_of}
 use Rattle.when_expr.specs.Truth.{truth}
 
@@ -17,11 +19,11 @@ mixed_truth = refl
 no_numbers : truth (test (word (codes "a")) below (word (codes "1"))) ≡ None
 no_numbers = refl
 
-unfinished : place start (codes "a =") ≡ 3
+unfinished : place when_joins when_machine start (codes "a =") ≡ 3
 unfinished = refl
 
-broken : place start (codes "a = b") ≡ 3
+broken : place when_joins when_machine start (codes "a = b") ≡ 3
 broken = refl
 
-single : place start (codes "a & b") ≡ 2
+single : place when_joins when_machine start (codes "a & b") ≡ 2
 single = refl

@@ -1,6 +1,4 @@
 -- What speaks of the crate's own code alone.
-pub mod Kinds
-pub mod Reading
+pub mod Operands
 pub mod Postfix
-pub mod Drafts
 pub mod Values

@@ -2,9 +2,11 @@
 #![tactic(auto)]
 
 mod evaluation;
+mod following;
+mod inner;
 pub mod law;
 mod number;
-mod reading;
+mod operands;
 mod refused;
 mod steps;
 pub mod when;

@@ -2,7 +2,7 @@
 //! recursion.
 
 ghost use Rattle.std.specs.Prelude.{◌≡◌, ◌++◌, ◌∷◌, [], IfOk};
-ghost use Rattle.when_expr.specs.Expression.{literal, test, negated, all_of, any_of};
+ghost use Rattle.when_expr.specs.Expression.{literal, test};
 ghost use Rattle.when_expr.specs.Inside.Postfix.{term_of, order_of};
 
 use base_types::{Bytes, Memory, TryCopy};
@@ -109,28 +109,28 @@ impl Draft {
         steps.push(Step::Test(left, comparison, right))?;
         Ok(Draft { steps })
     }
+}
+
+impl connectives::Draft for Draft {
+    ghost use Rattle.when_expr.specs.Grammar.{when_joins};
+
+    ghost joins = { when_joins };
 
     #[tactic(auto, using(crate::proofs::Postfixes::negated_steps))]
-    pub(crate) fn negated(self) -> Result<Draft, Memory>
-        ensures { IfOk result (λ draft. draft ≡ negated self) }
-    {
+    fn negated(self) -> Result<Draft, Memory> {
         let mut steps = self.steps;
         steps.push(Step::Not)?;
         Ok(Draft { steps })
     }
 
     #[tactic(auto, using(crate::proofs::Postfixes::all_steps))]
-    pub(crate) fn all_of(self, right: Draft) -> Result<Draft, Memory>
-        ensures { IfOk result (λ draft. draft ≡ all_of self right) }
-    {
+    fn all_of(self, right: Draft) -> Result<Draft, Memory> {
         let steps = joined(self.steps, right.steps, Step::And)?;
         Ok(Draft { steps })
     }
 
     #[tactic(auto, using(crate::proofs::Postfixes::any_steps))]
-    pub(crate) fn any_of(self, right: Draft) -> Result<Draft, Memory>
-        ensures { IfOk result (λ draft. draft ≡ any_of self right) }
-    {
+    fn any_of(self, right: Draft) -> Result<Draft, Memory> {
         let steps = joined(self.steps, right.steps, Step::Or)?;
         Ok(Draft { steps })
     }

@@ -2,15 +2,17 @@
 
 ghost use Rattle.std.specs.Prelude.{◌≡◌, ◌≢◌, ℕ, ◌≤◌, Ok, Some, None, Bool, IfOk, IfErr, IsErr};
 ghost use Rattle.when_expr.specs.declared.refused.WhenRefused.TheVariants as refused;
-ghost use Rattle.when_expr.specs.Grammar.{IsWhen, IsBadAt};
+ghost use Rattle.connectives.specs.Grammar.{IsBadAt};
+ghost use Rattle.when_expr.specs.Grammar.{IsWhen, when_language};
 ghost use Rattle.when_expr.specs.Inside.Postfix.{peak};
 ghost use Rattle.when_expr.specs.Truth.{truth};
 
 use crate::evaluation::evaluate;
-use crate::reading::read;
+use crate::inner::Inner;
 use crate::steps::{Draft, Step};
 use crate::{NotNumbers, WhenRefused};
 use base_types::{List, Memory, TryCopy};
+use connectives::read;
 use std::alloc::Global;
 use std::marker::Model;
 
@@ -53,15 +55,18 @@ fn from_draft(draft: Draft) -> When
 }
 
 /// Reads a `when`. Chains of `&&` and of `||` are nested to the left.
-#[tactic(auto, using(crate::proofs::Held::meant, crate::proofs::Fronts::bad, crate::proofs::Peaks::low))]
+#[tactic(auto, using(crate::proofs::OperandFacts::meant, crate::proofs::OperandFacts::bad))]
 pub fn parse_when(alloc: Global, text: &str) -> Result<When, WhenRefused>
     // What is read is of the grammar, and says what the text says.
     ensures ok { IfOk result (λ when. IsWhen text.now when) }
     // A text is refused where it is not of the grammar, at its fault, or where there is no memory.
-    ensures bad { IfErr result (λ e. e ≢ refused.Memory → (place : ℕ) × (e ≡ refused.Bad place) × IsBadAt text.now place) }
+    ensures bad { IfErr result (λ e. e ≢ refused.Memory →
+        (place : ℕ) × (e ≡ refused.Bad place) × IsBadAt when_language text.now place) }
 {
-    let draft = read(alloc, text.as_bytes())?;
-    Ok(from_draft(draft))
+    match read::<Draft, Inner>(alloc, text.as_bytes())? {
+        Ok(draft) => Ok(from_draft(draft)),
+        Err(place) => Err(WhenRefused::Bad { place }),
+    }
 }
 
 /// The truth of a condition: operands are evaluated from the left, stopping early.

@@ -1,4 +1,4 @@
-use Rattle.when_expr.proofs.Fronts.{says}
+use Rattle.when_expr.proofs.OperandFacts.{says}
 use Rattle.when_expr.proofs.law.when_says.Goals as goal
 
 pub returns : goal.returns
