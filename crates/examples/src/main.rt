@@ -1,4 +1,4 @@
-//! Runs the cases of its input through the top call, over a source and a sink in memory, and tells each that ends otherwise.
+//! Runs each case of its input through the top call over memory, and tells whether it ends as it says.
 #![tactic(auto)]
 
 mod case;

@@ -7,10 +7,7 @@ use serde_json::Value;
 use std::alloc::Global;
 
 /// A member that is a text.
-pub(crate) fn text_of<'a>(
-    case: &'a Value,
-    member: &'static str,
-) -> Result<&'a str, CasesRefused> {
+pub(crate) fn text_of<'a>(case: &'a Value, member: &'static str) -> Result<&'a str, CasesRefused> {
     match case.get(member) {
         Some(Value::String(text)) => Ok(text.as_str()),
         _ => Err(CasesRefused::Member { member }),

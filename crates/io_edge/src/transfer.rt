@@ -46,11 +46,13 @@ pub fn read_all<S: Source>(alloc: Global, source: &mut S, most: usize) -> Result
     requires { most < usize.MAX }
 
     // Nothing that was read is lost from sight, and one byte too many is the only ground of TooLong.
-    ensures took { (bytes : _) × Took (S.left source.old) (S.left source.new) most ReadRefused.TooLong result bytes }
+    ensures took { (bytes : _)
+        × Took (S.left source.old) (S.left source.new) most ReadRefused.TooLong result bytes }
     ensures whole { OnOk result (IsAtEnd (S.left source.new)) }
 
     ensures later { S.faults source.old ≤ S.faults source.new }
-    ensures failed { IsErrOf result ReadRefused.Failed → Rose (S.faults source.old) (S.faults source.new) }
+    ensures failed { IsErrOf result ReadRefused.Failed →
+        Rose (S.faults source.old) (S.faults source.new) }
     ensures unfailed { result ≢ Err ReadRefused.Failed →
         S.faults source.new ≡ S.faults source.old }
 {
@@ -73,7 +75,8 @@ pub fn read_all<S: Source>(alloc: Global, source: &mut S, most: usize) -> Result
 /// Writes all of `bytes`.
 pub fn write_all<K: Sink>(sink: &mut K, bytes: &[u8]) -> Result<(), Failed>
     ensures written { OnOk result (Appends (K.holds sink.old) (K.holds sink.new) bytes.now) }
-    ensures stopped { OnErr result ((n : ℕ) × StoppedAt (K.holds sink.old) (K.holds sink.new) bytes.now n) }
+    ensures stopped { OnErr result
+        ((n : ℕ) × StoppedAt (K.holds sink.old) (K.holds sink.new) bytes.now n) }
     ensures cause { HasCause (K.faults sink.old) (K.faults sink.new) result }
 {
     let mut rest = bytes;
