@@ -6,3 +6,4 @@ pub mod Levels
 pub mod Held
 pub mod Taken
 pub mod Fronts
+pub mod Peaks

@@ -281,8 +281,13 @@ fn beginning<D, I>(alloc: Global) -> State<D, I>
 
 /// What a text says, or the place of its fault.
 pub fn read<D: Draft, I: Operand<D>>(alloc: Global, text: &[u8]) -> Result<Result<D, usize>, Memory>
-    ensures ok { IfOk result (λ found. IfOk found (λ draft. read_from D.joins I.machine start text.now ≡ Some draft)) }
-    ensures bad { IfOk result (λ found. IfErr found (λ at. (read_from D.joins I.machine start text.now ≡ None) × (at ≡ place D.joins I.machine start text.now))) }
+    // What is read is what reading finds in the text.
+    ensures ok { IfOk result (λ found.
+        IfOk found (λ draft. read_from D.joins I.machine start text.now ≡ Some draft)) }
+    // Where reading finds nothing, the place at which it stops.
+    ensures bad { IfOk result (λ found. IfErr found (λ at.
+        (read_from D.joins I.machine start text.now ≡ None) ×
+        (at ≡ place D.joins I.machine start text.now))) }
 {
     let mut state: State<D, I> = beginning(alloc);
     for (place, byte) in text.iter().enumerate() {

@@ -19,7 +19,7 @@ use std::alloc::Global;
 use std::marker::Model;
 
 /// An expression over the results of tasks, and the names of these tasks.
-#[derive(Drop)]
+#[derive(Debug, Drop)]
 pub struct Depends {
     names: Names,
     steps: List<Step<usize>>,
@@ -95,7 +95,8 @@ pub fn parse_depends(alloc: Global, text: &str) -> Result<Depends, DependsRefuse
 pub fn eval(depends: &Depends, results: &[TaskResult]) -> bool
     requires { length results.now ≡ length (names_of depends.now) }
     // whatever gives each name its result
-    ensures { (of : Seq ℕ → Results) → map of (names_of depends.now) ≡ results.now → result ≡ truth of depends.now }
+    ensures { (of : Seq ℕ → Results) →
+        map of (names_of depends.now) ≡ results.now → result ≡ truth of depends.now }
 {
     evaluate(depends.steps.as_slice(), results)
 }

@@ -54,7 +54,7 @@ impl Outcome {
 }
 
 /// A step of an expression in postfix order, which names a task by an `N`.
-#[derive(Drop)]
+#[derive(Debug, Drop)]
 pub(crate) enum Step<N> {
     Bare(N),
     Has(N, Outcome),

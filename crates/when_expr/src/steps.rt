@@ -21,7 +21,7 @@ pub(crate) enum Comparison {
 }
 
 /// A side of a test.
-#[derive(Drop)]
+#[derive(Debug, Drop)]
 pub(crate) enum Side {
     Quoted(Bytes),
     Word(Bytes),
@@ -43,7 +43,7 @@ impl TryCopy for Side {
 }
 
 /// A step of a condition in postfix order.
-#[derive(Drop)]
+#[derive(Debug, Drop)]
 pub(crate) enum Step {
     Literal(bool),
     Test(Side, Comparison, Side),

@@ -17,7 +17,7 @@ use std::alloc::Global;
 use std::marker::Model;
 
 /// A condition.
-#[derive(Drop)]
+#[derive(Debug, Drop)]
 pub struct When {
     steps: List<Step>,
 }
