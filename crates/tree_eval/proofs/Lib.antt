@@ -1,4 +1,5 @@
 pub mod Facts
+pub mod Walkable
 pub mod Appended
 pub mod Grown
 pub mod Turns

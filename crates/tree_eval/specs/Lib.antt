@@ -1,6 +1,3 @@
-pub mod Built
 pub mod Ends
-pub mod Growing
-pub mod Index
 pub mod Told
-pub mod EndIndex
+pub mod Inside

@@ -6,15 +6,17 @@ ghost use Rattle.tree_types.specs.declared.phase.Phase.TheVariants as phase;
 ghost use Rattle.std.specs.Prelude.{if◌then◌else◌};
 ghost use Rattle.meaning.specs.Trees as trees;
 ghost use Rattle.tree_eval.specs.declared.refused.TreeRefused.TheVariants as refused;
-ghost use Rattle.tree_eval.specs.Built.{IsBuilt};
-ghost use Rattle.tree_eval.specs.Growing.{Grows};
-ghost use Rattle.tree_eval.specs.Told.{told, meant, meant_tree};
+ghost use Rattle.wf_manifest.specs.Valid.{Valid};
+ghost use Rattle.wf_manifest.specs.FirstForm.{IsFirstForm};
+ghost use Rattle.tree_eval.specs.Inside.Growing.{Grows, told};
+ghost use Rattle.tree_eval.specs.Told.{meant, meant_tree};
 
-use crate::growth::Growth;
+use crate::bounded::BoundedNodes;
 use crate::nodes::bare;
 use crate::templates::positions_of;
 use crate::walk::{Walk, kind_of};
 use crate::{Recorded, TreeRefused};
+use base_types::limits::MOST_DEPTH;
 use base_types::{Memory, TryCopy};
 use meaning::Place;
 use tree_types::{Note, Phase, Sel, Sels, Tree, fulfilled};
@@ -27,10 +29,10 @@ pub struct Evaluated {
     pub phase: Phase,
 }
 
-/// How many further depths may be called below the entrypoint, which has depth 1.
-const FURTHER_DEPTHS: u32 = 31;
+// How many further depths may be called below the entrypoint, which has depth 1.
+const FURTHER_DEPTHS: u32 = MOST_DEPTH - 1;
 
-/// The place of the entrypoint's node.
+// The place of the entrypoint's node.
 fn root_place(manifest: &Manifest) -> Result<Place, Memory>
     ensures { IfOk result (λ place. place ≡ trees.root manifest.now) }
 {
@@ -41,7 +43,7 @@ fn root_place(manifest: &Manifest) -> Result<Place, Memory>
     })
 }
 
-/// The phase of a workflow whose root has this phase.
+// The phase of a workflow whose root has this phase.
 fn overall(seen: Phase) -> Phase
     ensures { result ≡ (if phases.fulfilled seen then seen else phase.Running) }
 {
@@ -52,13 +54,14 @@ fn overall(seen: Phase) -> Phase
     }
 }
 
-/// Adds the nodes from the root down; the phase is that of the workflow.
+// Adds the nodes from the root down; the phase is that of the workflow.
 fn grow<R: Recorded>(
     manifest: &Manifest,
     recorded: &R,
-    nodes: &mut Growth,
+    nodes: &mut BoundedNodes,
 ) -> Result<Phase, TreeRefused>
-    requires { IsBuilt manifest.now }
+    requires valid { Valid manifest.now }
+    requires first { IsFirstForm manifest.now }
     ensures { let answers = R.answers recorded.now in
         Grows nodes.old nodes.new result (told manifest.now answers answers.started) }
 {
@@ -82,10 +85,11 @@ fn grow<R: Recorded>(
 ///
 /// No more nodes are made than a tree may have, however many the manifest means.
 pub fn evaluate<R: Recorded>(manifest: &Manifest, recorded: &R) -> Result<Evaluated, TreeRefused>
-    requires { IsBuilt manifest.now }
+    requires valid { Valid manifest.now }
+    requires first { IsFirstForm manifest.now }
     ensures { result ≢ Err refused.Memory → result ≡ meant manifest.now (R.answers recorded.now) }
 {
-    let mut nodes = Growth::new(manifest.name.allocator());
+    let mut nodes = BoundedNodes::new(manifest.name.allocator());
     let phase = grow(manifest, recorded, &mut nodes)?;
     Ok(Evaluated {
         tree: Tree {
@@ -97,7 +101,8 @@ pub fn evaluate<R: Recorded>(manifest: &Manifest, recorded: &R) -> Result<Evalua
 
 /// The tree of a manifest over what is recorded of it.
 pub fn tree<R: Recorded>(manifest: &Manifest, recorded: &R) -> Result<Tree, TreeRefused>
-    requires { IsBuilt manifest.now }
+    requires valid { Valid manifest.now }
+    requires first { IsFirstForm manifest.now }
     ensures { result ≢ Err refused.Memory → result ≡ meant_tree manifest.now (R.answers recorded.now) }
 {
     match evaluate(manifest, recorded) {
