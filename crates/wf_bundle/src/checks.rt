@@ -11,9 +11,9 @@ use crate::names::{NameSet, all_differ};
 use crate::rules::{BAD_NAME, DOUBLE_NAME, NO_TEMPLATE, TAG_IN_NAME, asked};
 use base_types::{Memory, Text};
 use field_kinds::KindRefused;
+use field_kinds::rules::NOT_BUILT;
 use std::alloc::Global;
 use wf_manifest::{Body, Call, Group, Manifest, Template};
-use wf_reader::NOT_BUILT;
 
 // ---- what a manifest has
 

@@ -30,7 +30,7 @@ impl PodEnd {
     }
 }
 
-/// The words of the ends.
+// The words of the ends.
 #[derive(Drop)]
 pub(crate) struct EndWord;
 

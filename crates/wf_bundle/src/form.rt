@@ -12,12 +12,13 @@ use crate::reading::read_plan;
 use crate::rules::{SECOND_POD, asked};
 use crate::{Outcomes, Plan};
 use base_types::Memory;
-use field_kinds::{KindRefused, MISSING, NOT_WORKFLOW, WRONG_KIND};
+use field_kinds::KindRefused;
+use field_kinds::rules::{MISSING, NOT_BUILT, UNKNOWN_KIND, WRONG_KIND};
 use json_fields::FieldPath;
 use serde_json::Value;
 use std::alloc::Global;
 use wf_manifest::Manifest;
-use wf_reader::{NOT_BUILT, read_workflow};
+use wf_reader::read_workflow;
 
 /// A document of the form.
 #[derive(Drop)]
@@ -60,8 +61,8 @@ fn form_by(alloc: Global, workflow: &Value, outcomes: &Value) -> Result<Form, Ki
     ensures { Reads result (forms.form_by (view workflow.now) (view outcomes.now)) }
 {
     let root = FieldPath::root(alloc);
-    asked(alloc, NOT_WORKFLOW, is_workflow(workflow))?;
-    asked(alloc, NOT_WORKFLOW, says(outcomes, "kind", "PodOutcomes"))?;
+    asked(alloc, UNKNOWN_KIND, is_workflow(workflow))?;
+    asked(alloc, UNKNOWN_KIND, says(outcomes, "kind", "PodOutcomes"))?;
     let manifest = read_workflow(alloc, workflow, &root)?;
     checked(alloc, &manifest)?;
     let plan = read_plan(alloc, outcomes, &root)?;
@@ -114,7 +115,7 @@ fn items_of<'a>(alloc: Global, list: &'a Value) -> Result<&'a [Value], KindRefus
 fn form_of(alloc: Global, value: &Value) -> Result<Form, KindRefused>
     ensures { Reads result (forms.form_of (view value.now)) }
 {
-    asked(alloc, NOT_WORKFLOW, says(value, "kind", "List"))?;
+    asked(alloc, UNKNOWN_KIND, says(value, "kind", "List"))?;
     form_in(alloc, items_of(alloc, value)?)
 }
 

@@ -2,6 +2,7 @@
 -- That a manifest says nothing else, while no other member is read, is this project's own.
 use Rattle.std.specs.Prelude.{ℕ, List, [], ◌∷◌, Bool, true, false, if◌then◌else◌, Option, Some, None, Ok, codes, pos}
 use Rattle.serde_json.specs.Data.{Data}
+use Rattle.base_types.specs.Limits.{most_members}
 use Rattle.wf_manifest.specs.declared.calls.Call.{Call}
 use Rattle.wf_manifest.specs.declared.templates.Body.{Body}
 use Rattle.wf_manifest.specs.declared.templates.Body.TheVariants as body
@@ -9,16 +10,12 @@ use Rattle.wf_manifest.specs.declared.templates.Template.{Template}
 use Rattle.wf_manifest.specs.declared.manifest.Manifest.{Manifest}
 use Rattle.field_kinds.specs.Reading.{◌>>=◌, Kind, refuse_by}
 use Rattle.field_kinds.specs.Kinds.{text, of, json_object, object_of, list_of}
-use Rattle.field_kinds.specs.Fields.{optional, required, has, no_second}
+use Rattle.field_kinds.specs.Rules as rules
+use Rattle.field_kinds.specs.Fields.{optional, required, has, no_second, only}
 use Rattle.wf_reader.specs.declared.bodies.BodyKind.{BodyKind}
 use Rattle.wf_reader.specs.declared.bodies.BodyKind.TheVariants as kind
 use Rattle.wf_reader.specs.declared.workflow.Spec.{Spec}
-use Rattle.wf_reader.specs.Members.{only}
 use Rattle.wf_reader.specs.Names.{workflow_name}
-
--- the most templates of a workflow, groups of a template and steps of a group
-abbrev pub most_members : ℕ
-most_members = 1000
 
 -- ---- steps (field reference, `WorkflowStep`)
 
@@ -53,7 +50,7 @@ first_body d =
 
 -- what a container says is not read
 abbrev pub body_by : Option BodyKind → Kind Body
-body_by None at d = refuse_by 2 at
+body_by None at d = refuse_by rules.missing at
 body_by (Some kind.Container) at d = optional json_object (codes "container") at d >>= λ _. Ok body.Pod
 body_by (Some kind.Steps) at d = required groups (codes "steps") at d >>= λ read. Ok (body.Steps read)
 

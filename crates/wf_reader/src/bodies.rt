@@ -14,7 +14,7 @@ pub enum BodyKind {
     Steps,
 }
 
-/// The first body that is there.
+// The first body that is there.
 pub(crate) fn first_body(template: &Value) -> Option<BodyKind>
     ensures { result ≡ first_body (view template.now) }
 {

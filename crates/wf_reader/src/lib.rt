@@ -2,15 +2,9 @@
 #![tactic(auto)]
 
 mod bodies;
-mod members;
 mod names;
-mod rules;
 mod templates;
-#[cfg(test)]
-mod tests;
 mod workflow;
 
-pub use members::only;
 pub use names::WorkflowName;
-pub use rules::NOT_BUILT;
 pub use workflow::read_workflow;

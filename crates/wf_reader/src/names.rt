@@ -4,6 +4,7 @@ ghost use Rattle.std.specs.Prelude.{◌≡◌};
 ghost use Rattle.std.specs.List.{list_all};
 ghost use Rattle.wf_reader.specs.Names as names;
 
+use base_types::limits::LONGEST_WORKFLOW_NAME;
 use base_types::{Memory, Text};
 use field_kinds::Grammar;
 use std::alloc::Global;
@@ -35,16 +36,16 @@ fn is_workflow_name(name: &[u8]) -> bool
 fn is_short(length: usize) -> bool
     ensures { result ≡ names.has_name_length length }
 {
-    0 < length && length <= 253
+    0 < length && length <= LONGEST_WORKFLOW_NAME
 }
 
 fn are_name_bytes(name: &[u8]) -> bool
     ensures { result ≡ list_all names.is_workflow_name_byte name.now }
 {
-    name.iter().all(|byte| is_name_byte(*byte))
+    name.iter().all(|byte| is_workflow_name_byte(*byte))
 }
 
-fn is_name_byte(byte: u8) -> bool
+fn is_workflow_name_byte(byte: u8) -> bool
     ensures { result ≡ names.is_workflow_name_byte byte }
 {
     byte.is_ascii_lowercase() || byte.is_ascii_digit() || byte == b'-' || byte == b'.'

@@ -3,104 +3,75 @@
 ghost use Rattle.std.specs.Prelude.{◌≡◌};
 ghost use Rattle.serde_json.specs.View.{view};
 ghost use Rattle.field_kinds.specs.Refusing.{Reads};
-ghost use Rattle.field_kinds.specs.Kinds.{object_of};
 ghost use Rattle.wf_reader.specs.Workflows as reads;
 
 use crate::bodies::{BodyKind, first_body, is_container};
-use crate::only;
-use crate::rules::MOST_MEMBERS;
-use base_types::{List, TryCopy};
+use base_types::List;
+use base_types::limits::MOST_MEMBERS;
+use field_kinds::rules::MISSING;
 use field_kinds::{
-    KindRefused, MISSING, Readable, list_of, needs_object, no_second, optional_object,
-    required_list, required_text,
+    Fields, KindRefused, Object, UpTo, no_second, only, optional_object, refused_at, required,
+    required_text,
 };
 use json_fields::FieldPath;
 use serde_json::Value;
 use std::alloc::Global;
-use wf_manifest::{Body, Call, Group, Template};
+use wf_manifest::{Body, Call, Template};
 
-/// Reads a step.
-pub(crate) struct StepReader;
+// The fields of a step.
+pub(crate) struct StepFields;
 
-impl Readable for StepReader {
+impl Fields for StepFields {
     type Made = Call;
 
     type Around = ();
 
-    ghost kind = { λ _. object_of reads.step_fields };
+    ghost fields = { λ _. reads.step_fields };
 
-    fn read(
+    #[tactic(auto, unfolding(crate::specs::Workflows::step_fields))]
+    fn read_fields(
         alloc: Global,
-        value: &Value,
+        step: &Value,
         at: &FieldPath,
         _around: &(),
     ) -> Result<Call, KindRefused> {
-        needs_object(value, at)?;
-        step_fields(alloc, value, at)
+        only(step, &["name", "template"], at)?;
+        Ok(Call {
+            name: required_text(alloc, step, "name", at)?,
+            template: required_text(alloc, step, "template", at)?,
+            arguments: List::new(alloc),
+            when: None,
+            each: None,
+            continue_on: None,
+            exit: None,
+        })
     }
 }
 
-#[tactic(auto, unfolding(crate::specs::Workflows::step_fields))]
-fn step_fields(alloc: Global, value: &Value, at: &FieldPath) -> Result<Call, KindRefused>
-    ensures { Reads result (reads.step_fields at.now (view value.now)) }
-{
-    only(value, &["name", "template"], at)?;
-    Ok(Call {
-        name: required_text(alloc, value, "name", at)?,
-        template: required_text(alloc, value, "template", at)?,
-        arguments: List::new(alloc),
-        when: None,
-        each: None,
-        continue_on: None,
-        exit: None,
-    })
-}
-
-/// Reads a group of steps.
-pub(crate) struct GroupReader;
-
-impl Readable for GroupReader {
-    type Made = Group;
-
-    type Around = ();
-
-    ghost kind = { λ _. reads.group };
-
-    fn read(
-        alloc: Global,
-        value: &Value,
-        at: &FieldPath,
-        around: &(),
-    ) -> Result<Group, KindRefused> {
-        list_of::<StepReader>(alloc, value, MOST_MEMBERS, at, around)
-    }
-}
+// Groups of steps.
+type Groups = UpTo<UpTo<Object<StepFields>, MOST_MEMBERS>, MOST_MEMBERS>;
 
 fn body_by(
     alloc: Global,
     kind: Option<BodyKind>,
-    value: &Value,
+    template: &Value,
     at: &FieldPath,
 ) -> Result<Body, KindRefused>
-    ensures { Reads result (reads.body_by kind at.now (view value.now)) }
+    ensures { Reads result (reads.body_by kind at.now (view template.now)) }
 {
     match kind {
         Some(BodyKind::Container) => {
-            optional_object(value, "container", at)?;
+            optional_object(template, "container", at)?;
             Ok(Body::Pod)
         }
-        Some(BodyKind::Steps) => Ok(Body::Steps(required_list::<GroupReader>(
+        Some(BodyKind::Steps) => Ok(Body::Steps(required::<Groups>(
             alloc,
-            value,
+            template,
             "steps",
-            MOST_MEMBERS,
             at,
             &(),
         )?)),
-        None => Err(KindRefused::Rule {
-            rule: MISSING,
-            field: at.copy()?,
-        }),
+        None => Err(refused_at(MISSING, at)?),
     }
 }
 
@@ -108,51 +79,42 @@ fn body_by(
 fn body_in(
     alloc: Global,
     kind: Option<BodyKind>,
-    value: &Value,
+    template: &Value,
     at: &FieldPath,
 ) -> Result<Body, KindRefused>
-    ensures { Reads result (reads.body_in kind at.now (view value.now)) }
+    ensures { Reads result (reads.body_in kind at.now (view template.now)) }
 {
-    let read = body_by(alloc, kind, value, at)?;
-    no_second(is_container(kind), value, "steps", at)?;
-    Ok(read)
+    let body = body_by(alloc, kind, template, at)?;
+    no_second(is_container(kind), template, "steps", at)?;
+    Ok(body)
 }
 
-/// Reads a template.
-pub(crate) struct TemplateReader;
+// The fields of a template.
+pub(crate) struct TemplateFields;
 
-impl Readable for TemplateReader {
+impl Fields for TemplateFields {
     type Made = Template;
 
     type Around = ();
 
-    ghost kind = { λ _. object_of reads.template_fields };
+    ghost fields = { λ _. reads.template_fields };
 
-    fn read(
+    #[tactic(auto, unfolding(crate::specs::Workflows::template_fields))]
+    fn read_fields(
         alloc: Global,
-        value: &Value,
+        template: &Value,
         at: &FieldPath,
         _around: &(),
     ) -> Result<Template, KindRefused> {
-        needs_object(value, at)?;
-        template_fields(alloc, value, at)
+        only(template, &["name", "container", "steps"], at)?;
+        Ok(Template {
+            name: required_text(alloc, template, "name", at)?,
+            inputs: List::new(alloc),
+            outputs: List::new(alloc),
+            lock: None,
+            memoize: None,
+            retry: None,
+            body: body_in(alloc, first_body(template), template, at)?,
+        })
     }
-}
-
-#[tactic(auto, unfolding(crate::specs::Workflows::template_fields))]
-fn template_fields(alloc: Global, value: &Value, at: &FieldPath) -> Result<Template, KindRefused>
-    ensures { Reads result (reads.template_fields at.now (view value.now)) }
-{
-    only(value, &["name", "container", "steps"], at)?;
-    let name = required_text(alloc, value, "name", at)?;
-    let body = body_in(alloc, first_body(value), value, at)?;
-    Ok(Template {
-        name,
-        inputs: List::new(alloc),
-        outputs: List::new(alloc),
-        lock: None,
-        memoize: None,
-        retry: None,
-        body,
-    })
 }

@@ -3,48 +3,40 @@
 ghost use Rattle.std.specs.Prelude.{◌≡◌, IfOk};
 ghost use Rattle.serde_json.specs.View.{view};
 ghost use Rattle.field_kinds.specs.Refusing.{Reads};
-ghost use Rattle.field_kinds.specs.Kinds.{object_of};
 ghost use Rattle.wf_reader.specs.Workflows as reads;
 
-use crate::rules::MOST_MEMBERS;
-use crate::templates::TemplateReader;
-use crate::{WorkflowName, only};
+use crate::WorkflowName;
+use crate::templates::TemplateFields;
+use base_types::limits::MOST_MEMBERS;
 use base_types::{List, Memory, Text};
 use field_kinds::{
-    KindRefused, Readable, needs_object, required, required_list, required_text, required_text_by,
+    Fields, KindRefused, Object, Readable, UpTo, only, required, required_text, required_text_by,
 };
 use json_fields::FieldPath;
 use serde_json::Value;
 use std::alloc::Global;
 use wf_manifest::{Manifest, Templates};
 
-/// Reads the metadata, of which the name is kept.
-struct MetadataReader;
+// The fields of the metadata, of which the name is kept.
+struct MetadataFields;
 
-impl Readable for MetadataReader {
+impl Fields for MetadataFields {
     type Made = Text;
 
     type Around = ();
 
-    ghost kind = { λ _. object_of reads.metadata_fields };
+    ghost fields = { λ _. reads.metadata_fields };
 
-    fn read(
+    #[tactic(auto, unfolding(crate::specs::Workflows::metadata_fields))]
+    fn read_fields(
         alloc: Global,
-        value: &Value,
+        metadata: &Value,
         at: &FieldPath,
         _around: &(),
     ) -> Result<Text, KindRefused> {
-        needs_object(value, at)?;
-        metadata_fields(alloc, value, at)
+        only(metadata, &["name"], at)?;
+        required_text_by::<WorkflowName>(alloc, metadata, "name", at)
     }
-}
-
-#[tactic(auto, unfolding(crate::specs::Workflows::metadata_fields))]
-fn metadata_fields(alloc: Global, value: &Value, at: &FieldPath) -> Result<Text, KindRefused>
-    ensures { Reads result (reads.metadata_fields at.now (view value.now)) }
-{
-    only(value, &["name"], at)?;
-    required_text_by::<WorkflowName>(alloc, value, "name", at)
 }
 
 /// What the `spec` says.
@@ -54,41 +46,29 @@ pub struct Spec {
     pub templates: Templates,
 }
 
-impl Readable for Spec {
+impl Fields for Spec {
     type Made = Spec;
 
     type Around = ();
 
-    ghost kind = { λ _. object_of reads.spec_fields };
+    ghost fields = { λ _. reads.spec_fields };
 
-    fn read(
+    #[tactic(auto, unfolding(crate::specs::Workflows::spec_fields))]
+    fn read_fields(
         alloc: Global,
-        value: &Value,
+        spec: &Value,
         at: &FieldPath,
         _around: &(),
     ) -> Result<Spec, KindRefused> {
-        needs_object(value, at)?;
-        spec_fields(alloc, value, at)
+        only(spec, &["entrypoint", "templates"], at)?;
+        Ok(Spec {
+            entrypoint: required_text(alloc, spec, "entrypoint", at)?,
+            templates: required::<AllTemplates>(alloc, spec, "templates", at, &())?,
+        })
     }
 }
 
-#[tactic(auto, unfolding(crate::specs::Workflows::spec_fields))]
-fn spec_fields(alloc: Global, value: &Value, at: &FieldPath) -> Result<Spec, KindRefused>
-    ensures { Reads result (reads.spec_fields at.now (view value.now)) }
-{
-    only(value, &["entrypoint", "templates"], at)?;
-    Ok(Spec {
-        entrypoint: required_text(alloc, value, "entrypoint", at)?,
-        templates: required_list::<TemplateReader>(
-            alloc,
-            value,
-            "templates",
-            MOST_MEMBERS,
-            at,
-            &(),
-        )?,
-    })
-}
+type AllTemplates = UpTo<Object<TemplateFields>, MOST_MEMBERS>;
 
 fn manifest_of(alloc: Global, name: Text, spec: Spec) -> Result<Manifest, Memory>
     ensures { IfOk result (λ manifest. manifest ≡ reads.manifest_of name spec) }
@@ -106,14 +86,28 @@ fn manifest_of(alloc: Global, name: Text, spec: Spec) -> Result<Manifest, Memory
     })
 }
 
-#[tactic(auto, unfolding(crate::specs::Workflows::workflow_fields))]
-fn workflow_fields(alloc: Global, value: &Value, at: &FieldPath) -> Result<Manifest, KindRefused>
-    ensures { Reads result (reads.workflow_fields at.now (view value.now)) }
-{
-    only(value, &["apiVersion", "kind", "metadata", "spec"], at)?;
-    let name = required::<MetadataReader>(alloc, value, "metadata", at, &())?;
-    let spec = required::<Spec>(alloc, value, "spec", at, &())?;
-    Ok(manifest_of(alloc, name, spec)?)
+// The fields of a workflow.
+struct WorkflowFields;
+
+impl Fields for WorkflowFields {
+    type Made = Manifest;
+
+    type Around = ();
+
+    ghost fields = { λ _. reads.workflow_fields };
+
+    #[tactic(auto, unfolding(crate::specs::Workflows::workflow_fields))]
+    fn read_fields(
+        alloc: Global,
+        workflow: &Value,
+        at: &FieldPath,
+        _around: &(),
+    ) -> Result<Manifest, KindRefused> {
+        only(workflow, &["apiVersion", "kind", "metadata", "spec"], at)?;
+        let name = required::<Object<MetadataFields>>(alloc, workflow, "metadata", at, &())?;
+        let spec = required::<Object<Spec>>(alloc, workflow, "spec", at, &())?;
+        Ok(manifest_of(alloc, name, spec)?)
+    }
 }
 
 /// The manifest of a workflow, as it stands at a path of the document. What `apiVersion` and `kind` must be is not
@@ -121,6 +115,5 @@ fn workflow_fields(alloc: Global, value: &Value, at: &FieldPath) -> Result<Manif
 pub fn read_workflow(alloc: Global, value: &Value, at: &FieldPath) -> Result<Manifest, KindRefused>
     ensures { Reads result (reads.workflow at.now (view value.now)) }
 {
-    needs_object(value, at)?;
-    workflow_fields(alloc, value, at)
+    Object::<WorkflowFields>::read(alloc, value, at, &())
 }
