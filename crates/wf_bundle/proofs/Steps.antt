@@ -15,10 +15,12 @@ use Rattle.wf_bundle.specs.Forms.{form_in}
 use Rattle.wf_bundle.specs.declared.outcome.PlannedOutcome.{PlannedOutcome}
 use Rattle.wf_bundle.specs.declared.outcome.PlannedPod.{PlannedPod}
 use Rattle.wf_bundle.specs.declared.outcomes.PodName.{PodName}
-use Rattle.wf_bundle.specs.Names.{is_among}
-use Rattle.wf_bundle.specs.Checks.{calls_in, has_tag, is_same_pod, not_built}
+use Rattle.base_types.specs.Names.{is_among}
+use Rattle.field_kinds.specs.Rules.{not_built}
+use Rattle.wf_manifest.specs.Valid.{calls_in}
+use Rattle.wf_bundle.specs.Checks.{has_tag, is_same_pod}
 use Rattle.wf_bundle.specs.Outcomes.{is_for, named}
-use Rattle.wf_bundle.specs.Pods.{is_pod_named, pod_of, pods_of}
+use Rattle.wf_bundle.specs.Inside.Pods.{is_pod_named, pod_of, pods_of}
 
 -- ---- groups
 

@@ -1,19 +1,28 @@
--- What is asked of a manifest and a plan once they are read, test by test. The numbers of the rules are this project's
--- own. Argo asks that names of templates and steps differ, that the templates which are called are there, and that the
--- entrypoint is (Argo, "Template Types" and "Steps"); the grammar of steps' names and the rest is this project's own.
-use Rattle.std.specs.Prelude.{ℕ, List, [], ◌∷◌, ◌++◌, Bool, true, false, not, ◌&&◌, if◌then◌else◌, nat_eq, nat_lt, nat_le, length, Ok, bytes_eq, codes, map, filter}
+-- What is asked of a manifest and a plan once they are read, in order. That order, and what is asked beside the rules of
+-- `Valid`, are this project's own.
+use Rattle.std.specs.Prelude.{ℕ, List, [], ◌∷◌, ◌++◌, Bool, true, false, not, ◌&&◌, if◌then◌else◌, nat_eq, Ok, bytes_eq, codes, filter}
 use Rattle.std.specs.List.{list_any, list_all, starts_with}
-use Rattle.node_names.specs.Names.{is_name_byte}
-use Rattle.wf_manifest.specs.declared.calls.Call.{Call}
+use Rattle.base_types.specs.Names.{is_among}
 use Rattle.wf_manifest.specs.declared.templates.Body.{Body}
 use Rattle.wf_manifest.specs.declared.templates.Body.TheVariants as body
 use Rattle.wf_manifest.specs.declared.templates.Template.{Template}
 use Rattle.wf_manifest.specs.declared.manifest.Manifest.{Manifest}
+use Rattle.wf_manifest.specs.Valid.{template_names, calls_of, templates_differ, steps_differ, has_step_names, calls_are_there, entry_is_there}
+use Rattle.field_kinds.specs.Rules as rules
 use Rattle.field_kinds.specs.Reading.{Read, ◌>>=◌, refuse_by}
 use Rattle.wf_bundle.specs.declared.outcome.PlannedPod.{PlannedPod}
-use Rattle.wf_bundle.specs.Names.{is_among, all_differ}
 
--- ---- what a manifest has
+-- ---- names without tags
+
+-- `{{` stands somewhere in the text, so that it has a tag
+abbrev pub has_tag : List ℕ → Bool
+has_tag [] = false
+has_tag (b ∷ t) = if starts_with nat_eq (b ∷ t) (codes "{{") then true else has_tag t
+
+abbrev pub no_tags : List Template → Bool
+no_tags ts = list_all (λ t. not (has_tag t.name)) ts
+
+-- ---- the first form: the entrypoint has steps, and each of them calls a pod
 
 abbrev pub is_pod : Body → Bool
 is_pod body.Pod = true
@@ -23,79 +32,19 @@ abbrev pub is_steps : Body → Bool
 is_steps (body.Steps groups) = true
 is_steps _ = false
 
-abbrev pub calls_in : List (List Call) → List Call
-calls_in [] = []
-calls_in (group ∷ groups) = group ++ calls_in groups
-
--- the calls of a body, one after the other
-abbrev pub calls_of : Body → List Call
-calls_of (body.Steps groups) = calls_in groups
-calls_of _ = []
-
-abbrev pub template_names : List Template → List (List ℕ)
-template_names ts = map (λ t. t.name) ts
-
 abbrev pub pod_names : List Template → List (List ℕ)
 pod_names ts = template_names (filter (λ t. is_pod t.body) ts)
 
--- ---- tests of names
+abbrev pub calls_pods : List (List ℕ) → Template → Bool
+calls_pods pods t = is_steps t.body && list_all (λ c. is_among pods c.template) (calls_of t.body)
 
--- `{{` stands somewhere in the text, so that it has a tag
-abbrev pub has_tag : List ℕ → Bool
-has_tag [] = false
-has_tag (b ∷ t) = if starts_with nat_eq (b ∷ t) (codes "{{") then true else has_tag t
+abbrev pub calls_pods_if_named : List ℕ → List (List ℕ) → Template → Bool
+calls_pods_if_named name pods t = if bytes_eq t.name name then calls_pods pods t else true
 
-abbrev pub has_step_length : ℕ → Bool
-has_step_length n = nat_lt 0 n && nat_le n 128
-
--- 1 to 128 letters, digits, `-` and `_`, and neither `onExit` nor `hooks`
-abbrev pub is_step_name : List ℕ → Bool
-is_step_name name =
-    has_step_length (length name)
-    && list_all is_name_byte name
-    && not (bytes_eq name (codes "onExit"))
-    && not (bytes_eq name (codes "hooks"))
-
--- ---- tests of templates
-
-abbrev pub no_tags : List Template → Bool
-no_tags ts = list_all (λ t. not (has_tag t.name)) ts
-
-abbrev pub names_differ : Template → Bool
-names_differ t = all_differ (map (λ c. c.name) (calls_of t.body))
-
-abbrev pub has_step_names : Template → Bool
-has_step_names t = list_all (λ c. is_step_name c.name) (calls_of t.body)
-
--- each call names one of these
-abbrev pub calls_among : List (List ℕ) → Template → Bool
-calls_among names t = list_all (λ c. is_among names c.template) (calls_of t.body)
-
-abbrev pub is_steps_named : List ℕ → Template → Bool
-is_steps_named name t = bytes_eq t.name name && is_steps t.body
-
-abbrev pub calls_among_if_named : List ℕ → List (List ℕ) → Template → Bool
-calls_among_if_named name names t = if bytes_eq t.name name then calls_among names t else true
+abbrev pub entry_calls_pods : Manifest → Bool
+entry_calls_pods m = list_all (calls_pods_if_named m.entrypoint (pod_names m.templates)) m.templates
 
 -- ---- all tests, in order
-
-abbrev pub no_template : ℕ
-no_template = 11
-
-abbrev pub double_name : ℕ
-double_name = 12
-
-abbrev pub bad_name : ℕ
-bad_name = 13
-
-abbrev pub tag_in_name : ℕ
-tag_in_name = 19
-
-abbrev pub second_pod : ℕ
-second_pod = 21
-
-abbrev pub not_built : ℕ
-not_built = 24
 
 -- the resource as a whole is refused by the rule, unless the test holds
 abbrev pub asked : ℕ → Bool → Read (Unit {0})
@@ -103,13 +52,13 @@ asked rule holds = if holds then Ok tt else refuse_by rule []
 
 unfoldable pub checked : Manifest → Read (Unit {0})
 checked m = do
-  _ ← asked double_name (all_differ (template_names m.templates))
-  _ ← asked tag_in_name (no_tags m.templates)
-  _ ← asked double_name (list_all names_differ m.templates)
-  _ ← asked bad_name (list_all has_step_names m.templates)
-  _ ← asked no_template (list_all (calls_among (template_names m.templates)) m.templates)
-  _ ← asked no_template (list_any (is_steps_named m.entrypoint) m.templates)
-  asked not_built (list_all (calls_among_if_named m.entrypoint (pod_names m.templates)) m.templates)
+  _ ← asked rules.double_name (templates_differ m)
+  _ ← asked rules.misplaced_tag (no_tags m.templates)
+  _ ← asked rules.double_name (list_all steps_differ m.templates)
+  _ ← asked rules.bad_name (list_all has_step_names m.templates)
+  _ ← asked rules.unknown_name (list_all (calls_are_there m) m.templates)
+  _ ← asked rules.unknown_name (entry_is_there m)
+  asked rules.not_built (entry_calls_pods m)
 
 -- ---- pods
 

@@ -3,13 +3,14 @@ use Rattle.std.specs.Prelude.{ℕ, List, [], Bool, false, ◌&&◌, if◌then◌
 use Rattle.serde_json.specs.Data.{Data, string, Items, no_items, item}
 use Rattle.serde_json.specs.Find.{get}
 use Rattle.json_fields.specs.Kinds as is
+use Rattle.field_kinds.specs.Rules as rules
 use Rattle.field_kinds.specs.Reading.{Read, ◌>>=◌, Kind, refuse_by, or_wrong}
 use Rattle.field_kinds.specs.Fields.{required}
 use Rattle.wf_reader.specs.Workflows.{workflow}
 use Rattle.wf_bundle.specs.declared.form.Form.{Form}
 use Rattle.wf_bundle.specs.declared.outcome.Plan.{Plan}
 use Rattle.wf_bundle.specs.PodOutcomes.{plan}
-use Rattle.wf_bundle.specs.Checks.{not_built, second_pod, asked, checked, pods_differ}
+use Rattle.wf_bundle.specs.Checks.{asked, checked, pods_differ}
 
 abbrev pub is_text : List ℕ → Option Data → Bool
 is_text t (Some (string u)) = bytes_eq u t
@@ -33,18 +34,14 @@ is_outcomes d = says (codes "kind") (codes "PodOutcomes") d
 abbrev pub items : Kind Items
 items at d = or_wrong at (is.list d)
 
--- the number of the rule that an item is of no kind that is known
-abbrev pub unknown_kind : ℕ
-unknown_kind = 1
-
 -- a plan in which no pod is twice
 abbrev pub outcomes_of : Plan → Read Plan
-outcomes_of said = if pods_differ said.pods then Ok said else refuse_by second_pod []
+outcomes_of said = if pods_differ said.pods then Ok said else refuse_by rules.second []
 
 unfoldable pub form_by : Data → Data → Read Form
 form_by w o = do
-  _ ← asked unknown_kind (is_workflow w)
-  _ ← asked unknown_kind (is_outcomes o)
+  _ ← asked rules.unknown_kind (is_workflow w)
+  _ ← asked rules.unknown_kind (is_outcomes o)
   manifest ← workflow [] w
   _ ← checked manifest
   said ← plan [] o
@@ -54,12 +51,12 @@ form_by w o = do
 -- exactly two items
 abbrev pub form_in : Items → Read Form
 form_in (item w (item o no_items)) = form_by w o
-form_in _ = refuse_by not_built []
+form_in _ = refuse_by rules.not_built []
 
 -- a List, whose other members are not read
 unfoldable pub form_of : Data → Read Form
 form_of d = do
-  _ ← asked unknown_kind (is_list d)
+  _ ← asked rules.unknown_kind (is_list d)
   found ← required items (codes "items") [] d
   form_in found
 

@@ -1,7 +1,7 @@
 pub mod Checks
 pub mod Forms
-pub mod Names
 pub mod Outcomes
 pub mod PodOutcomes
-pub mod Pods
-pub mod Same
+pub mod Inside
+pub use Rattle.wf_manifest.specs.Valid
+pub use Rattle.wf_manifest.specs.FirstForm

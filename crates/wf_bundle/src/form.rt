@@ -1,19 +1,21 @@
 //! Documents of the form as a whole.
 
-ghost use Rattle.std.specs.Prelude.{◌≡◌, [], codes, IfOk};
+ghost use Rattle.std.specs.Prelude.{◌≡◌, [], codes, IfOk, IfSome};
+ghost use Rattle.wf_manifest.specs.Valid.{Valid};
+ghost use Rattle.wf_manifest.specs.FirstForm.{IsFirstForm};
 ghost use Rattle.serde_json.specs.View.{view, items_view};
 ghost use Rattle.field_kinds.specs.Refusing.{Reads, Shows};
 ghost use Rattle.field_kinds.specs.Fields.{required};
-ghost use Rattle.wf_bundle.specs.Checks.{not_built};
+ghost use Rattle.field_kinds.specs.Rules.{not_built};
 ghost use Rattle.wf_bundle.specs.Forms as forms;
 
+use crate::asked::asked;
 use crate::checks::checked;
 use crate::reading::read_plan;
-use crate::rules::{SECOND_POD, asked};
 use crate::{Outcomes, Plan};
 use base_types::Memory;
 use field_kinds::KindRefused;
-use field_kinds::rules::{MISSING, NOT_BUILT, UNKNOWN_KIND, WRONG_KIND};
+use field_kinds::rules::{MISSING, NOT_BUILT, SECOND, UNKNOWN_KIND, WRONG_KIND};
 use json_fields::FieldPath;
 use serde_json::Value;
 use std::alloc::Global;
@@ -27,7 +29,7 @@ pub struct Form {
     pub outcomes: Outcomes,
 }
 
-/// Whether a field is this text.
+// Whether a field is this text.
 fn says(object: &Value, name: &str, text: &str) -> bool
     ensures { result ≡ forms.says name.now text.now (view object.now) }
 {
@@ -43,14 +45,14 @@ fn is_workflow(item: &Value) -> bool
     says(item, "kind", "Workflow") && says(item, "apiVersion", "argoproj.io/v1alpha1")
 }
 
-/// The outcomes of a plan in which no pod is twice.
+// The outcomes of a plan in which no pod is twice.
 fn outcomes_of(alloc: Global, plan: Plan) -> Result<Outcomes, KindRefused>
     ensures { Reads result (forms.outcomes_of plan) }
 {
     match Outcomes::of_plan(alloc, plan)? {
         Some(outcomes) => Ok(outcomes),
         None => Err(KindRefused::Rule {
-            rule: SECOND_POD,
+            rule: SECOND,
             field: FieldPath::root(alloc),
         }),
     }
@@ -92,7 +94,7 @@ fn not_of_form(alloc: Global) -> KindRefused
     }
 }
 
-/// The items of a list, whose other members are not read.
+// The items of a list, whose other members are not read.
 fn items_of<'a>(alloc: Global, list: &'a Value) -> Result<&'a [Value], KindRefused>
     ensures { Shows (λ items. items_view items.now) result
         (required forms.items (codes "items") [] (view list.entry.now)) }
@@ -121,7 +123,9 @@ fn form_of(alloc: Global, value: &Value) -> Result<Form, KindRefused>
 
 /// The document that a JSON value is, and None exactly where it is not of the form.
 pub fn read_form(alloc: Global, value: &Value) -> Result<Option<Form>, Memory>
-    ensures { IfOk result (λ form. form ≡ forms.accepted (forms.form_of (view value.now))) }
+    ensures told { IfOk result (λ form. form ≡ forms.accepted (forms.form_of (view value.now))) }
+    ensures valid { IfOk result (λ form. IfSome form (λ form. Valid form.manifest)) }
+    ensures first { IfOk result (λ form. IfSome form (λ form. IsFirstForm form.manifest)) }
 {
     match form_of(alloc, value) {
         Ok(form) => Ok(Some(form)),

@@ -1,6 +1,7 @@
 //! Documents of the first form: one workflow of steps and pods, and what is planned for its pods.
 #![tactic(auto)]
 
+mod asked;
 mod checks;
 mod ends;
 mod form;
@@ -8,9 +9,6 @@ mod names;
 mod outcome;
 mod outcomes;
 mod reading;
-mod rules;
-#[cfg(test)]
-mod tests;
 
 pub use form::{Form, read_form};
 pub use outcome::{Plan, PlannedOutcome, PlannedPod, PlannedPods};

@@ -2,7 +2,7 @@
 
 ghost use Rattle.std.specs.Prelude.{◌≡◌, ◌++◌, ◌∷◌, [], ℕ, List as Seq, IfOk, IsTrue, bytes_eq, map, not};
 ghost use Rattle.std.specs.HashSet.{contains};
-ghost use Rattle.wf_bundle.specs.Names.{is_among, all_differ};
+ghost use Rattle.base_types.specs.Names.{is_among, all_differ};
 
 use base_types::{Memory, Text, TryCopy};
 use indexmap::IndexSet;
@@ -44,7 +44,7 @@ pub(crate) struct NameSet<'a> {
 impl<'a> Model for NameSet<'a> {
     ghost use Rattle.std.specs.Prelude.{◌≡◌, ℕ, List as Seq, bytes_eq, map};
     ghost use Rattle.std.specs.HashSet.{contains};
-    ghost use Rattle.wf_bundle.specs.Names.{is_among};
+    ghost use Rattle.base_types.specs.Names.{is_among};
 
     ghost Value = { Seq (Seq ℕ) };
 

@@ -6,7 +6,7 @@ ghost use Rattle.std.specs.Hash as fed;
 ghost use Rattle.std.specs.List.{list_any};
 ghost use Rattle.std.specs.Cmp.Rules.{comparing, hashing};
 ghost use Rattle.wf_bundle.specs.Outcomes.{planned_for};
-ghost use Rattle.wf_bundle.specs.Pods.{pods_of};
+ghost use Rattle.wf_bundle.specs.Inside.Pods.{pods_of};
 ghost use Rattle.wf_bundle.specs.Checks.{is_same_pod, pods_differ};
 
 use crate::{Plan, PlannedOutcome, PlannedPod};
@@ -81,8 +81,8 @@ impl Hash for PodQuery<'_> {
 }
 
 impl Equivalent<PodName> for PodQuery<'_> {
-    ghost use Rattle.wf_bundle.specs.Pods.{is_pod_named};
-    ghost use Rattle.wf_bundle.specs.Same.{fed_alike, same_tests};
+    ghost use Rattle.wf_bundle.specs.Inside.Pods.{is_pod_named};
+    ghost use Rattle.wf_bundle.specs.Inside.Same.{fed_alike, same_tests};
 
     ghost equivalent = { λ query name. is_pod_named query.workflow.now query.node.now name };
 
@@ -107,7 +107,7 @@ impl Model for Outcomes {
 
     ghost Value = { Plan };
 
-    ghost use Rattle.wf_bundle.specs.Pods.{pods_of};
+    ghost use Rattle.wf_bundle.specs.Inside.Pods.{pods_of};
 
     ghost view = { λ outcomes. record { default = outcomes.default; pods = pods_of outcomes.pods.entries } };
 }

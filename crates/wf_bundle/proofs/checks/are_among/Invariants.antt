@@ -1,8 +1,8 @@
 -- The calls that are left decide.
 use Rattle.std.proofs.Common.{◌≡◌, drop, map}
 use Rattle.std.specs.List.{list_all}
-use Rattle.wf_bundle.specs.Names.{is_among}
+use Rattle.wf_bundle.specs.Inside.Among as among
 use Rattle.wf_bundle.proofs.checks.are_among.Given as goal
 
 abbrev pub invariant-loop-i : goal.invariant-loop-i
-invariant-loop-i l = list_all (λ call. is_among l.names call.template) (map (λ call. call.now) (drop l.i l.calls)) ≡ list_all (λ call. is_among l.names call.template) (map (λ call. call.now) l.calls)
+invariant-loop-i l = list_all (among.call_among l.names) (map (λ call. call.now) (drop l.i l.calls)) ≡ list_all (among.call_among l.names) (map (λ call. call.now) l.calls)

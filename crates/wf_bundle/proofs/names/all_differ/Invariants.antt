@@ -1,6 +1,6 @@
 -- The names that are left decide, beside those before.
 use Rattle.std.proofs.Common.{◌≡◌, drop, map, []}
-use Rattle.wf_bundle.specs.Names.{differ_from}
+use Rattle.base_types.specs.Names.{differ_from}
 use Rattle.wf_bundle.proofs.names.all_differ.Given as goal
 
 abbrev pub invariant-loop-i : goal.invariant-loop-i

@@ -2,7 +2,7 @@ use Rattle.std.proofs.Common.{◌∙◌, ap, sym, map, take, get_or, ◌++◌, �
 use Rattle.std.proofs.lemmas.List.{take_more, map-append}
 use Rattle.std.specs.HashSet.{contains}
 use Rattle.std.specs.Prelude.{bytes_eq}
-use Rattle.wf_bundle.specs.Names.{is_among}
+use Rattle.base_types.specs.Names.{is_among}
 use Rattle.wf_bundle.proofs.Steps.{name_added}
 use Rattle.wf_bundle.proofs.names.set_of.Goals as goal
 

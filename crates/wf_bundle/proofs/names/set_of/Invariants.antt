@@ -2,7 +2,7 @@
 use Rattle.std.proofs.Common.{◌≡◌, ℕ, List, take, map}
 use Rattle.std.specs.Prelude.{bytes_eq}
 use Rattle.std.specs.HashSet.{contains}
-use Rattle.wf_bundle.specs.Names.{is_among}
+use Rattle.base_types.specs.Names.{is_among}
 use Rattle.wf_bundle.proofs.names.set_of.Given as goal
 
 abbrev pub invariant-loop-i : goal.invariant-loop-i

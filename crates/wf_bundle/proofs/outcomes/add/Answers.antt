@@ -2,7 +2,7 @@ use Rattle.std.proofs.Common.{◌∙◌, ap, sym, not, ◌&&◌, bytes_eq}
 use Rattle.std.specs.Map.{lookup}
 use Rattle.indexmap.proofs.CallerLemmas.{insert_entry-new}
 use Rattle.wf_bundle.specs.declared.outcomes.PodName.{PodName}
-use Rattle.wf_bundle.specs.Pods.{is_pod_named, pods_of}
+use Rattle.wf_bundle.specs.Inside.Pods.{is_pod_named, pods_of}
 use Rattle.wf_bundle.proofs.Steps.{is_kept, no_value, pod_added}
 use Rattle.wf_bundle.proofs.outcomes.add.Goals as goal
 

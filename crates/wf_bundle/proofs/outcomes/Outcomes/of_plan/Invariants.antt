@@ -2,7 +2,7 @@
 use Rattle.std.proofs.Common.{◌≡◌, ◌++◌, []}
 use Rattle.std.specs.Vec.Iter.{into_iter_items}
 use Rattle.wf_bundle.specs.Checks.{pods_differ_from}
-use Rattle.wf_bundle.specs.Pods.{pods_of}
+use Rattle.wf_bundle.specs.Inside.Pods.{pods_of}
 use Rattle.wf_bundle.proofs.outcomes.Outcomes.of_plan.Given as goal
 
 abbrev pub invariant-loop-pod : goal.invariant-loop-pod
