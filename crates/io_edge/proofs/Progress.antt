@@ -11,17 +11,17 @@ pub record Wrote (old new : Option (List ℕ)) (before now : ℕ) (bytes rest : 
   pub front : List ℕ
   pub split : bytes ≡ front ++ rest
   pub added : Appends old new front
-  pub later : before ≤ now
+  pub same : now ≡ before
 
 pub nothing_wrote : (old : Option (List ℕ)) (before : ℕ) (bytes : List ℕ) → Wrote old old before before bytes bytes
-nothing_wrote old before bytes = record { front = []; split = refl; added = Appends-nil old; later = omega arith }
+nothing_wrote old before bytes = record { front = []; split = refl; added = Appends-nil old; same = refl }
 
-pub wrote_more : (old mid new : Option (List ℕ)) (before between now : ℕ) (bytes rest : List ℕ) (n : ℕ) → Wrote old mid before between bytes rest → Appends mid new (take n rest) → between ≤ now → Wrote old new before now bytes (drop n rest)
-wrote_more old mid new before between now bytes rest n wrote more later = record {
+pub wrote_more : (old mid new : Option (List ℕ)) (before between now : ℕ) (bytes rest : List ℕ) (n : ℕ) → Wrote old mid before between bytes rest → Appends mid new (take n rest) → now ≡ between → Wrote old new before now bytes (drop n rest)
+wrote_more old mid new before between now bytes rest n wrote more same = record {
   front = wrote.front ++ take n rest;
   split = wrote.split ∙ ap (λ (l : List ℕ). wrote.front ++ l) (sym (take-append-drop n rest)) ∙ sym (append_assoc wrote.front (take n rest) (drop n rest));
   added = Appends-trans old mid new wrote.front (take n rest) wrote.added more;
-  later = omega (arith, wrote.later, later);
+  same = same ∙ wrote.same;
 }
 
 pub wrote_all : (old new : Option (List ℕ)) (before now : ℕ) (bytes : List ℕ) → Wrote old new before now bytes [] → Appends old new bytes
@@ -38,23 +38,23 @@ stopped old mid new before now bytes rest wrote some kept =
     )
 
 -- the same, as a slice of the rest is seen
-pub wrote_to : (old mid new : Option (List ℕ)) (before between now : ℕ) (bytes rest : List ℕ) (n : ℕ) → Wrote old mid before between bytes rest → Appends mid new (take n rest) → between ≤ now → Wrote old new before now bytes (take (length rest - n) (drop n rest))
-wrote_to old mid new before between now bytes rest n wrote more later =
-    subst (λ (l : List ℕ). Wrote old new before now bytes l) (sym (take_all (length rest - n) (drop n rest) (omega (arith, length-drop n rest)))) (wrote_more old mid new before between now bytes rest n wrote more later)
+pub wrote_to : (old mid new : Option (List ℕ)) (before between now : ℕ) (bytes rest : List ℕ) (n : ℕ) → Wrote old mid before between bytes rest → Appends mid new (take n rest) → now ≡ between → Wrote old new before now bytes (take (length rest - n) (drop n rest))
+wrote_to old mid new before between now bytes rest n wrote more same =
+    subst (λ (l : List ℕ). Wrote old new before now bytes l) (sym (take_all (length rest - n) (drop n rest) (omega (arith, length-drop n rest)))) (wrote_more old mid new before between now bytes rest n wrote more same)
 
 -- of the source `bytes` have been read
 pub record Read (old new : Option (List ℕ)) (before now most : ℕ) (bytes : List ℕ) : Type 0 where
   pub consumed : Consumes old new bytes
-  pub later : before ≤ now
+  pub same : now ≡ before
   pub fits : length bytes ≤ most
 
 pub nothing_read : (old : Option (List ℕ)) (before most : ℕ) → Read old old before before most []
-nothing_read old before most = record { consumed = Consumes-nil old; later = omega arith; fits = omega arith }
+nothing_read old before most = record { consumed = Consumes-nil old; same = refl; fits = omega arith }
 
-pub read_more : (old mid new : Option (List ℕ)) (before between now most : ℕ) (bytes more : List ℕ) → Read old mid before between most bytes → Consumes mid new more → between ≤ now → length more ≤ most - length bytes → Read old new before now most (bytes ++ more)
-read_more old mid new before between now most bytes more read next later fits = record {
+pub read_more : (old mid new : Option (List ℕ)) (before between now most : ℕ) (bytes more : List ℕ) → Read old mid before between most bytes → Consumes mid new more → now ≡ between → length more ≤ most - length bytes → Read old new before now most (bytes ++ more)
+read_more old mid new before between now most bytes more read next same fits = record {
   consumed = Consumes-trans old mid new bytes more read.consumed next;
-  later = omega (arith, read.later, later);
+  same = same ∙ read.same;
   fits = omega (arith, length-append bytes more, read.fits, fits);
 }
 

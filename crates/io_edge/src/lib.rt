@@ -10,8 +10,6 @@ mod memory_source;
 mod sink;
 mod source;
 mod standard;
-#[cfg(test)]
-mod tests;
 mod transfer;
 
 pub use call_plan::CallNumbers;

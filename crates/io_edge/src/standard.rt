@@ -1,6 +1,6 @@
 //! Any reader and any writer of std as a source and a sink: standard input and output above all.
 
-ghost use Rattle.std.specs.Prelude.{◌≡◌, ◌+◌, ◌<◌, ◌≤◌, IfOk, IsOk, OnOk, OnErr, None, length};
+ghost use Rattle.std.specs.Prelude.{◌≡◌, ◌+◌, ◌<◌, ◌≤◌, IfOk, IsOk, OnErr, None, length};
 ghost use Rattle.std.specs.Io.{ReadsAtMost, WritesAtMost};
 ghost use Rattle.std.specs.Io.KnownBytes.{ReadConsumes, WriteAppends};
 ghost use Rattle.io_edge.specs.Cause.{HasCause};
@@ -47,7 +47,6 @@ impl<R: Read + Drop> Source for StdSource<R> {
         ensures told { self.old.faults < u64.MAX →
             ReadConsumes (R.remaining self.old.inner) (R.remaining self.new.inner) result into.new }
         ensures counted { OnErr result (self.new.faults ≡ self.old.faults + 1) }
-        ensures same { OnOk result (self.new.faults ≡ self.old.faults) }
         ensures last { self.old.faults ≡ u64.MAX → IsOk result }
     {
         match self.inner.read(into) {
@@ -99,7 +98,6 @@ impl<W: Write + Drop> Sink for StdSink<W> {
         ensures told { self.old.faults < u64.MAX →
             WriteAppends (W.contents self.old.inner) (W.contents self.new.inner) result from.now }
         ensures counted { OnErr result (self.new.faults ≡ self.old.faults + 1) }
-        ensures same { OnOk result (self.new.faults ≡ self.old.faults) }
         ensures last { self.old.faults ≡ u64.MAX → IsOk result }
     {
         match self.inner.write(from) {

@@ -1,5 +1,5 @@
 //! Whole transfers: all of a source into memory, and all of a text into a sink.
-ghost use Rattle.std.specs.Prelude.{◌≡◌, ℕ, ◌+◌, ◌^◌, ◌-◌, ◌<◌, ◌≤◌, length, OnOk, OnErr, IfOk, IsErrOf};
+ghost use Rattle.std.specs.Prelude.{◌≡◌, ◌≢◌, ℕ, ◌+◌, ◌^◌, ◌-◌, ◌<◌, ◌≤◌, length, OnOk, OnErr, IfOk, IsErrOf};
 ghost use Rattle.std.specs.Io.KnownBytes.{Appends, IsAtEnd};
 ghost use Rattle.io_edge.specs.Cause.{HasCause, Rose};
 ghost use Rattle.io_edge.specs.Transfer.{Took, StoppedAt};
@@ -51,6 +51,8 @@ pub fn read_all<S: Source>(alloc: Global, source: &mut S, most: usize) -> Result
 
     ensures later { S.faults source.old ≤ S.faults source.new }
     ensures failed { IsErrOf result ReadRefused.Failed → Rose (S.faults source.old) (S.faults source.new) }
+    ensures unfailed { result ≢ Err ReadRefused.Failed →
+        S.faults source.new ≡ S.faults source.old }
 {
     let mut bytes = Bytes::new(alloc);
     let mut piece = [0u8; PIECE];

@@ -1,10 +1,11 @@
 -- What is answered to a JSON value: the text of the tree that its workflow means over its planned outcomes.
-use Rattle.std.specs.Prelude.{ℕ, List, ◌++◌, Option, Some, None, if◌then◌else◌, nat_le, length, codes}
+use Rattle.std.specs.Prelude.{◌≡◌, ℕ, ◌<◌, ◌≤◌, List, ◌++◌, length, codes, MatchOption}
 use Rattle.serde_json.specs.Data.{Data}
+use Rattle.base_types.specs.Limits.{most_nodes}
 use Rattle.tree_types.specs.declared.phase.Phase.{Phase}
 use Rattle.tree_types.specs.declared.node.Node.{Node}
 use Rattle.tree_types.specs.Texts.{tree_text}
-use Rattle.meaning.specs.Trees.{most_nodes, phase}
+use Rattle.meaning.specs.Trees.{phase}
 use Rattle.meaning.specs.Plain.{Planned, planned_answers, plain}
 use Rattle.wf_bundle.specs.declared.form.Form.{Form}
 use Rattle.wf_bundle.specs.Forms.{form_of, accepted}
@@ -31,16 +32,14 @@ text_of form = tree_text form.manifest.name (phase_of form) (nodes_of form)
 abbrev pub too_large_text : List ℕ → List ℕ
 too_large_text name = codes "argo: too large: " ++ name ++ codes "\n"
 
--- a tree of at most 10,000 nodes is printed
-abbrev pub answer_to : Form → Answered
-answer_to form =
-    if nat_le (length (nodes_of form)) most_nodes then Done (text_of form)
-    else TooLarge (too_large_text form.manifest.name)
+-- An answer to a document: the text of its tree, or that the tree has more than 10,000 nodes.
+abbrev pub IsAnswerTo : Form → Answered → Type 0
+IsAnswerTo form (Done text) = (length (nodes_of form) ≤ most_nodes) × (text ≡ text_of form)
+IsAnswerTo form (TooLarge text) =
+    (most_nodes < length (nodes_of form)) × (text ≡ too_large_text form.manifest.name)
+IsAnswerTo form NotBuilt = ⊥
 
-abbrev pub answer_if : Option Form → Answered
-answer_if None = NotBuilt
-answer_if (Some form) = answer_to form
-
--- a value that is no document of the form is of a form that is not built yet
-abbrev pub answer : Data → Answered
-answer value = answer_if (accepted (form_of value))
+-- An answer to a JSON value: one to the document that it is; where it is none, that its form is not built.
+abbrev pub IsAnswer : Data → Answered → Type 0
+IsAnswer value answered =
+    MatchOption (accepted (form_of value)) (answered ≡ NotBuilt) (λ form. IsAnswerTo form answered)

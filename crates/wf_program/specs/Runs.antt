@@ -1,84 +1,115 @@
--- What a whole run did: which bytes it read, how it ended and why, and what it wrote. All of it is this project's own.
-use Rattle.std.specs.Prelude.{◌≡◌, ℕ, ◌+◌, ◌≤◌, ◌⊎◌, ◌↔◌, List, [], ◌∷◌, length, codes, IsUtf8}
+-- What a whole run did, by the status that it answers. All of it is this project's own.
+use Rattle.std.specs.Prelude.{◌≡◌, ℕ, ◌+◌, ◌≤◌, List, [], ◌∷◌, length, codes, IsUtf8}
 use Rattle.std.specs.Io.KnownBytes.{Appends, Consumes, IsAtEnd}
 use Rattle.std.specs.declared.option.Option.{Option}
 use Rattle.std.specs.declared.option.Option.TheVariants.{Some, None}
 use Rattle.serde_json.specs.Data.{Data}
 use Rattle.serde_json.specs.Read.{read}
+use Rattle.base_types.specs.Limits.{longest_input}
 use Rattle.io_edge.specs.Cause.{Rose}
 use Rattle.io_edge.specs.Transfer.{StoppedAt}
 use Rattle.wf_program.specs.declared.mode.Answered.{Answered}
-use Rattle.wf_program.specs.declared.mode.Answered.TheVariants as answered
+use Rattle.wf_program.specs.declared.mode.Answered.TheVariants as answer
 use Rattle.wf_program.specs.declared.status.Status.{Status}
-use Rattle.wf_program.specs.declared.status.Status.TheVariants.{Done, Usage, ReadFault, WriteFault, NotJson, TooLarge, TooLong, NotBuilt}
-use Rattle.wf_program.specs.Statuses.{status_text}
+use Rattle.wf_program.specs.declared.status.Status.TheVariants.{Done, Usage, ReadFault, WriteFault, NotJson, TooLarge, Memory, TooLong, NotBuilt}
+use Rattle.wf_program.specs.Statuses.{fixed_text, not_json_text}
 
--- the longest input, in bytes
-abbrev pub most : ℕ
-most = 16777216
+-- ---- what is seen of a run
+
+-- A source or a sink, before the run and after it: the bytes that the source has left or the sink holds, where they are
+-- known, and how many of its calls have failed.
+pub record Edge : Type 0 where
+  pub bytes_before : Option (List ℕ)
+  pub bytes_after : Option (List ℕ)
+  pub faults_before : ℕ
+  pub faults_after : ℕ
+
+pub record Run : Type 0 where
+  pub words : List (List ℕ)
+  pub source : Edge
+  pub sink : Edge
+
+-- a call failed in this run
+abbrev pub SomeFailed : Edge → Type 0
+SomeFailed edge = Rose edge.faults_before edge.faults_after
+
+-- no call failed in this run
+abbrev pub NoneFailed : Edge → Type 0
+NoneFailed edge = edge.faults_after ≡ edge.faults_before
+
+-- ---- what was read
 
 -- the only words that are a command
 abbrev pub IsCommand : List (List ℕ) → Type 0
 IsCommand words = words ≡ codes "run" ∷ []
 
--- ---- JSON, as `serde_json` reads it
+-- nothing was read, and no read failed
+abbrev pub IsUntouched : Edge → Type 0
+IsUntouched source = (source.bytes_after ≡ source.bytes_before) × NoneFailed source
 
--- the bytes are the text of this value
-abbrev pub Reads : List ℕ → Data → Type 0
-Reads bytes value = IsUtf8 bytes × (read bytes ≡ Some value)
+-- the words are a command, and these bytes were read
+pub record HasRead (words : List (List ℕ)) (source : Edge) (input : List ℕ) : Type 0 where
+  pub command : IsCommand words
+  pub consumed : Consumes source.bytes_before source.bytes_after input
 
--- the bytes are the text of no value
-abbrev pub ReadsNone : List ℕ → Type 0
-ReadsNone bytes = IsUtf8 bytes → read bytes ≡ None
+-- besides, they are all that was left and not too many, and no read failed
+pub record HasReadAll (words : List (List ℕ)) (source : Edge) (input : List ℕ) : Type 0 where
+  pub read : HasRead words source input
+  pub all : IsAtEnd source.bytes_after
+  pub bound : length input ≤ longest_input
+  pub unfailed : NoneFailed source
 
--- ---- the end of a run, before anything is written
+-- the bytes are the text of this JSON value, as `serde_json` reads it
+abbrev pub IsJsonOf : List ℕ → Data → Type 0
+IsJsonOf bytes value = IsUtf8 bytes × (read bytes ≡ Some value)
 
--- what was read, the status, and the status's text
-pub record End : Type 0 where
-  pub input : List ℕ
-  pub status : Status
-  pub text : List ℕ
+-- the bytes are the text of no JSON value
+abbrev pub IsNoJson : List ℕ → Type 0
+IsNoJson bytes = IsUtf8 bytes → read bytes ≡ None
 
--- what an end says of the input, by what a value's data means
-abbrev pub Judged : (Data → Answered) → List ℕ → Status → List ℕ → Type 0
-Judged meant input Done text = (value : Data) × Reads input value × (meant value ≡ answered.Done text)
-Judged meant input TooLarge text = (value : Data) × Reads input value × (meant value ≡ answered.TooLarge text)
-Judged meant input NotBuilt text = (value : Data) × Reads input value × (meant value ≡ answered.NotBuilt)
-Judged meant input NotJson text = ReadsNone input
-Judged meant input WriteFault text = ⊥
-Judged meant input _ text = Unit {0}
+-- all of the input was read, and it is the text of this JSON value
+abbrev pub HasReadValue : List (List ℕ) → Edge → Data → Type 0
+HasReadValue words source value = (input : List ℕ) × HasReadAll words source input × IsJsonOf input value
 
--- the text of an end; those of Done and TooLarge follow from the input
-abbrev pub Says : Status → ℕ → List ℕ → Type 0
-Says Done count text = Unit {0}
-Says TooLarge count text = Unit {0}
-Says status count text = text ≡ status_text status count
+-- ---- how a run ends
 
--- an end that speaks of the whole input
-abbrev pub IsOfWhole : Status → Type 0
-IsOfWhole Done = Unit {0}
-IsOfWhole NotJson = Unit {0}
-IsOfWhole TooLarge = Unit {0}
-IsOfWhole NotBuilt = Unit {0}
-IsOfWhole _ = ⊥
+-- Why a run ends with this status, and the text of its end; `means value answered` says that this is an answer to the value.
+abbrev pub Ends : (Data → Answered → Type 0) → List (List ℕ) → Edge → Status → List ℕ → Type 0
+-- 2: The words are no command. Nothing is read.
+Ends means words source Usage text =
+    ¬ IsCommand words × IsUntouched source × (text ≡ fixed_text Usage)
+-- 3: A read failed, behind so many bytes.
+Ends means words source ReadFault text = (input : List ℕ) × HasRead words source input
+    × (length input ≤ longest_input) × SomeFailed source × (text ≡ fixed_text ReadFault)
+-- 10: One byte more was read than an input may have, and no read failed.
+Ends means words source TooLong text = (input : List ℕ) × HasRead words source input
+    × (length input ≡ longest_input + 1) × NoneFailed source × (text ≡ fixed_text TooLong)
+-- 5: All was read, and it is the text of no JSON value.
+Ends means words source NotJson text = (input : List ℕ) × HasReadAll words source input
+    × IsNoJson input × (text ≡ not_json_text (length input))
+-- 20: All was read, and it is the text of a JSON value whose form is not built yet.
+Ends means words source NotBuilt text = (value : Data) × HasReadValue words source value
+    × means value answer.NotBuilt × (text ≡ fixed_text NotBuilt)
+-- 8: All was read, and it is the text of a JSON value whose tree is too large, which the text says.
+Ends means words source TooLarge text = (value : Data) × HasReadValue words source value
+    × means value (answer.TooLarge text)
+-- 0: All was read, and it is the text of a JSON value whose answer is the text.
+Ends means words source Done text = (value : Data) × HasReadValue words source value
+    × means value (answer.Done text)
+-- 9: Memory was wanting, behind so many bytes, and no read failed.
+Ends means words source Memory text = (input : List ℕ) × HasRead words source input
+    × (length input ≤ longest_input) × NoneFailed source × (text ≡ fixed_text Memory)
+-- 4: This is no end, but what is answered in its place.
+Ends means words source WriteFault text = ⊥
 
--- Why a run with these words ended so: what its source had left before and after, and how many of its reads failed.
-pub record Came
-    (meant : Data → Answered) (words : List (List ℕ)) (left left' : Option (List ℕ)) (faults faults' : ℕ) (end : End)
-    : Type 0 where
-  pub consumed : Consumes left left' end.input
-  pub whole : IsOfWhole end.status → IsAtEnd left'
-  pub usage : (end.status ≡ Usage) ↔ (¬ IsCommand words)
-  pub unread : end.status ≡ Usage → end.input ≡ []
-  pub fault : end.status ≡ ReadFault → Rose faults faults'
-  pub bound : length end.input ≤ most + 1
-  pub too_long : (end.status ≡ TooLong) ↔ (length end.input ≡ most + 1)
-  pub judged : Judged meant end.input end.status end.text
-  pub says : Says end.status (length end.input) end.text
+-- ---- what a run did
 
--- ---- what is written
-
--- the text is written whole and its status answered, or a start of it is written and a write fault answered
-abbrev pub Wrote : Option (List ℕ) → Option (List ℕ) → List ℕ → Status → Status → Type 0
-Wrote old new text status result =
-    ((result ≡ status) × Appends old new text) ⊎ ((result ≡ WriteFault) × ((n : ℕ) × StoppedAt old new text n))
+-- What a run did that answers this status.
+abbrev pub Ran : (Data → Answered → Type 0) → Run → Status → Type 0
+-- 4: It ended with another status, a write failed, and of its text only a start is written.
+Ran means run WriteFault = (status : Status) × (text : List ℕ) × (count : ℕ)
+    × Ends means run.words run.source status text × SomeFailed run.sink
+    × StoppedAt run.sink.bytes_before run.sink.bytes_after text count
+-- Else it ended with this status, its text is written whole, and no write failed.
+Ran means run status = (text : List ℕ) × Ends means run.words run.source status text
+    × NoneFailed run.sink × Appends run.sink.bytes_before run.sink.bytes_after text

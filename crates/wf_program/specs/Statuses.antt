@@ -23,7 +23,6 @@ fixed_text TooLong = codes "argo: input too long\n"
 fixed_text NotBuilt = codes "argo: not built yet\n"
 fixed_text _ = []
 
--- the text of a status other than Done and TooLarge, where so many bytes were read
-abbrev pub status_text : Status → ℕ → List ℕ
-status_text NotJson count = codes "argo: not JSON, " ++ decimal count ++ codes " bytes\n"
-status_text status count = fixed_text status
+-- the text of NotJson, where so many bytes were read
+abbrev pub not_json_text : ℕ → List ℕ
+not_json_text count = codes "argo: not JSON, " ++ decimal count ++ codes " bytes\n"

@@ -19,7 +19,7 @@ use wf_bundle::{Form, read_form};
 pub(crate) struct FirstForm;
 
 impl Mode for FirstForm {
-    ghost meant = { λ _. answers.answer };
+    ghost means = { λ _. answers.IsAnswer };
 
     fn answer(&self, alloc: Global, value: &Value) -> Result<Answered, Memory> {
         match read_built(alloc, value)? {
@@ -40,7 +40,7 @@ fn read_built(alloc: Global, value: &Value) -> Result<Option<Form>, Memory>
 
 fn answer_to(alloc: Global, form: &Form) -> Result<Answered, Memory>
     requires { IsBuilt form.now.manifest }
-    ensures { IfOk result (λ answered. answered ≡ answers.answer_to form.now) }
+    ensures { IfOk result (λ answered. answers.IsAnswerTo form.now answered) }
 {
     let manifest = &form.manifest;
     let run = PlannedRun {

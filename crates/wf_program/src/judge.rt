@@ -2,9 +2,9 @@
 
 ghost use Rattle.std.specs.Prelude.{◌≡◌, length, IfOk, MatchOption};
 ghost use Rattle.serde_json.specs.View.{view as data_of};
-ghost use Rattle.wf_program.specs.Runs.{Reads, ReadsNone};
-ghost use Rattle.wf_program.specs.Statuses.{status_text};
-ghost use Rattle.wf_program.specs.Ends.{Judgement, end_from};
+ghost use Rattle.wf_program.specs.Runs.{IsJsonOf, IsNoJson};
+ghost use Rattle.wf_program.specs.Statuses.{not_json_text};
+ghost use Rattle.wf_program.specs.Inside.Ends.{Judged, status_in, text_in};
 
 use crate::{Answered, Mode, Status};
 use base_types::{Bytes, Memory};
@@ -20,7 +20,7 @@ pub(crate) struct Made {
 
 /// The end of a run that has read all of its input. An end whose text takes no memory is its status alone.
 pub(crate) fn judge<M: Mode>(alloc: Global, mode: &M, input: &[u8]) -> Result<Made, Status>
-    ensures { Judgement (M.meant mode.now) (end_from input.now result) }
+    ensures { Judged (M.means mode.now) input.now (status_in result) (text_in result) }
 {
     let Some(value) = read_json(alloc, input)? else {
         let text = not_json_text(alloc, input.len())?;
@@ -45,7 +45,7 @@ pub(crate) fn judge<M: Mode>(alloc: Global, mode: &M, input: &[u8]) -> Result<Ma
 // The JSON value of which these bytes are the text, if there is one.
 fn read_json(alloc: Global, bytes: &[u8]) -> Result<Option<Value>, Memory>
     ensures { IfOk result
-        (λ found. MatchOption found (ReadsNone bytes.now) (λ value. Reads bytes.now (data_of value))) }
+        (λ found. MatchOption found (IsNoJson bytes.now) (λ value. IsJsonOf bytes.now (data_of value))) }
 {
     match Value::from_slice(alloc, bytes) {
         Ok(value) => Ok(Some(value)),
@@ -55,7 +55,7 @@ fn read_json(alloc: Global, bytes: &[u8]) -> Result<Option<Value>, Memory>
 }
 
 fn not_json_text(alloc: Global, count: usize) -> Result<Bytes, Memory>
-    ensures { IfOk result (λ text. text ≡ status_text Status.NotJson count) }
+    ensures { IfOk result (λ text. text ≡ not_json_text count) }
 {
     let text = format!(in alloc; "argo: not JSON, {count} bytes\n")?;
     Ok(Bytes::from_vec(text.into_bytes()))

@@ -6,10 +6,8 @@ mod judge;
 mod mode;
 mod planned;
 mod status;
-#[cfg(test)]
-mod tests;
 mod top;
 
 use mode::{Answered, Mode};
 pub use status::Status;
-pub use top::{MOST, argo};
+pub use top::argo;

@@ -1,6 +1,6 @@
 //! The work on a JSON value, which the top call is written over.
 
-ghost use Rattle.std.specs.Prelude.{◌≡◌, IfOk};
+ghost use Rattle.std.specs.Prelude.{IfOk};
 ghost use Rattle.serde_json.specs.Data.{Data};
 ghost use Rattle.serde_json.specs.View.{view as data_of};
 ghost use Rattle.wf_program.specs.declared.mode.Answered.{Answered};
@@ -22,9 +22,9 @@ pub(crate) enum Answered {
 
 /// The work on a JSON value.
 pub(crate) trait Mode {
-    /// What is to be answered to a value of these data.
-    ghost meant: { Self → Data → Answered };
+    /// This is an answer to a value of these data. There may be several.
+    ghost means: { Self → Data → Answered → Type 0 };
 
     fn answer(&self, alloc: Global, value: &Value) -> Result<Answered, Memory>
-        ensures { IfOk result (λ answered. answered ≡ meant self.now (data_of value.now)) };
+        ensures { IfOk result (λ answered. means self.now (data_of value.now) answered) };
 }

@@ -1,20 +1,17 @@
 //! The top call.
 
-ghost use Rattle.std.specs.Prelude.{◌≡◌, ◌↔◌, ℕ, List, codes, IsTrue};
-ghost use Rattle.io_edge.specs.Cause.{Rose};
-ghost use Rattle.wf_program.specs.Runs.{Came, End, IsCommand, Wrote};
-ghost use Rattle.wf_program.specs.Answers.{answer};
-ghost use Rattle.wf_program.specs.Ends.{end_from};
+ghost use Rattle.std.specs.Prelude.{◌≡◌, ◌↔◌, codes, IsTrue};
+ghost use Rattle.wf_program.specs.Answers.{IsAnswer};
+ghost use Rattle.wf_program.specs.Runs.{Ends, IsCommand, Ran};
+ghost use Rattle.wf_program.specs.Inside.Ends.{Wrote, status_in, text_in};
 
 use crate::first_form::FirstForm;
 use crate::judge::{Made, judge};
 use crate::{Mode, Status};
 use base_types::Text;
+use base_types::limits::LONGEST_INPUT;
 use io_edge::{ReadRefused, Sink, Source, read_all, write_all};
 use std::alloc::Global;
-
-/// The longest input, in bytes.
-pub const MOST: usize = 16_777_216;
 
 /// Reads a document from the source and writes the tree that its workflow means over its planned outcomes, where the words
 /// (those behind the program's name) are `run` alone.
@@ -27,12 +24,21 @@ pub fn argo<S: Source, K: Sink>(
     source: &mut S,
     sink: &mut K,
 ) -> Status
-    // One end came, for its reason, and its text was written, or a start of it.
-    ensures ran { (end : End)
-        × Came answer words.now (S.left source.old) (S.left source.new) (S.faults source.old) (S.faults source.new) end
-        × Wrote (K.holds sink.old) (K.holds sink.new) end.text end.status result }
-
-    ensures write_fault { result ≡ Status.WriteFault → Rose (K.faults sink.old) (K.faults sink.new) }
+    ensures { Ran IsAnswer (record {
+      words = words.now;
+      source = record {
+        bytes_before = S.left source.old;
+        bytes_after = S.left source.new;
+        faults_before = S.faults source.old;
+        faults_after = S.faults source.new;
+      };
+      sink = record {
+        bytes_before = K.holds sink.old;
+        bytes_after = K.holds sink.new;
+        faults_before = K.faults sink.old;
+        faults_after = K.faults sink.new;
+      };
+    }) result }
 {
     answer_words(alloc, &FirstForm, words, source, sink)
 }
@@ -46,12 +52,21 @@ fn answer_words<M: Mode, S: Source, K: Sink>(
     source: &mut S,
     sink: &mut K,
 ) -> Status
-    ensures ran { (end : End)
-        × Came (M.meant mode.now) words.now (S.left source.old) (S.left source.new)
-        (S.faults source.old) (S.faults source.new) end
-        × Wrote (K.holds sink.old) (K.holds sink.new) end.text end.status result }
-
-    ensures write_fault { result ≡ Status.WriteFault → Rose (K.faults sink.old) (K.faults sink.new) }
+    ensures { Ran (M.means mode.now) (record {
+      words = words.now;
+      source = record {
+        bytes_before = S.left source.old;
+        bytes_after = S.left source.new;
+        faults_before = S.faults source.old;
+        faults_after = S.faults source.new;
+      };
+      sink = record {
+        bytes_before = K.holds sink.old;
+        bytes_after = K.holds sink.new;
+        faults_before = K.faults sink.old;
+        faults_after = K.faults sink.new;
+      };
+    }) result }
 {
     match end_of(alloc, mode, words, source) {
         Ok(made) => write_end(sink, made.text.as_slice(), made.status),
@@ -66,14 +81,17 @@ fn end_of<M: Mode, S: Source>(
     words: &[Text],
     source: &mut S,
 ) -> Result<Made, Status>
-    ensures { (input : List ℕ)
-        × Came (M.meant mode.now) words.now (S.left source.old) (S.left source.new)
-        (S.faults source.old) (S.faults source.new) (end_from input result) }
+    ensures { Ends (M.means mode.now) words.now (record {
+      bytes_before = S.left source.old;
+      bytes_after = S.left source.new;
+      faults_before = S.faults source.old;
+      faults_after = S.faults source.new;
+    }) (status_in result) (text_in result) }
 {
     if !is_command(words) {
         return Err(Status::Usage);
     }
-    match read_all(alloc, source, MOST) {
+    match read_all(alloc, source, LONGEST_INPUT) {
         Ok(input) => judge(alloc, mode, input.as_slice()),
         Err(ReadRefused::Failed) => Err(Status::ReadFault),
         Err(ReadRefused::TooLong) => Err(Status::TooLong),
@@ -98,9 +116,12 @@ fn is_run(word: &Text) -> bool
 
 // Writes the text of an end.
 fn write_end<K: Sink>(sink: &mut K, text: &[u8], status: Status) -> Status
-    ensures wrote { Wrote (K.holds sink.old) (K.holds sink.new) text.now status result }
-    ensures write_fault { result ≡ Status.WriteFault →
-        (status ≡ Status.WriteFault → ⊥) → Rose (K.faults sink.old) (K.faults sink.new) }
+    ensures { Wrote (record {
+      bytes_before = K.holds sink.old;
+      bytes_after = K.holds sink.new;
+      faults_before = K.faults sink.old;
+      faults_after = K.faults sink.new;
+    }) status text.now result }
 {
     match write_all(sink, text) {
         Ok(()) => status,
