@@ -2,7 +2,6 @@ pub mod Statuses
 pub mod Answers
 pub mod Runs
 pub mod Inside
-
 pub use Rattle.base_types.specs.Limits
 pub use Rattle.io_edge.specs.Cause
 pub use Rattle.io_edge.specs.Transfer

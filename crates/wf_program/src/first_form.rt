@@ -1,9 +1,8 @@
 //! The work on a document of the first form: one workflow of steps and pods, and what is planned for its pods.
 
-ghost use Rattle.std.specs.Prelude.{◌≡◌, IfOk, MatchOption};
-ghost use Rattle.serde_json.specs.View.{view as data_of};
-ghost use Rattle.tree_eval.specs.Built.{IsBuilt};
-ghost use Rattle.wf_bundle.specs.Forms.{form_of, accepted};
+ghost use Rattle.std.specs.Prelude.{◌≡◌, IfOk};
+ghost use Rattle.wf_bundle.specs.Valid.{Valid};
+ghost use Rattle.wf_bundle.specs.FirstForm.{IsFirstForm};
 ghost use Rattle.wf_program.specs.Answers as answers;
 
 use crate::planned::PlannedRun;
@@ -22,24 +21,16 @@ impl Mode for FirstForm {
     ghost means = { λ _. answers.IsAnswer };
 
     fn answer(&self, alloc: Global, value: &Value) -> Result<Answered, Memory> {
-        match read_built(alloc, value)? {
+        match read_form(alloc, value)? {
             None => Ok(Answered::NotBuilt),
             Some(form) => answer_to(alloc, &form),
         }
     }
 }
 
-/// A document of the form says a manifest of which there is a tree.
-#[tactic(auto, using(crate::proofs::Built::accepted_is_built))]
-fn read_built(alloc: Global, value: &Value) -> Result<Option<Form>, Memory>
-    ensures told { IfOk result (λ form. form ≡ accepted (form_of (data_of value.now))) }
-    ensures built { IfOk result (λ form. MatchOption form (Unit {0}) (λ form. IsBuilt form.manifest)) }
-{
-    read_form(alloc, value)
-}
-
 fn answer_to(alloc: Global, form: &Form) -> Result<Answered, Memory>
-    requires { IsBuilt form.now.manifest }
+    requires valid { Valid form.now.manifest }
+    requires first { IsFirstForm form.now.manifest }
     ensures { IfOk result (λ answered. answers.IsAnswerTo form.now answered) }
 {
     let manifest = &form.manifest;
