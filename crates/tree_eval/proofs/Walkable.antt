@@ -1,9 +1,9 @@
 -- A valid manifest of the first form may be walked over.
-use Rattle.std.proofs.Common.{◌≡◌, ℕ, ◌≤◌, Bool, List, [], ◌∷◌, ◌++◌, length, ◌&&◌}
-use Rattle.std.specs.Prelude.{All, IsTrue, nat_le}
+use Rattle.std.proofs.Common.{◌≤◌, List, [], ◌∷◌, ◌++◌, length}
+use Rattle.std.specs.Prelude.{All, IsTrue}
 use Rattle.std.specs.List.{list_all}
 use Rattle.std.proofs.lemmas.Bool.{and_parts, leb-true}
-use Rattle.std.proofs.lemmas.List.Elements.{All-nil, All-cons, All-head, All-tail, All-take, All-drop}
+use Rattle.std.proofs.lemmas.List.Elements.{All-nil, All-cons, All-head, All-tail}
 use Rattle.base_types.specs.Limits.{most_members}
 use Rattle.node_names.specs.Names.{is_step_name}
 use Rattle.wf_manifest.specs.declared.calls.Call.{Call}
@@ -13,7 +13,6 @@ use Rattle.wf_manifest.specs.declared.templates.Template.{Template}
 use Rattle.wf_manifest.specs.declared.manifest.Manifest.{Manifest}
 use Rattle.wf_manifest.specs.Valid.{calls_in, calls_of, has_template, has_named, hook_is_there, call_is_there, calls_are_there, has_step_names, is_short, body_is_short, Valid}
 use Rattle.wf_manifest.specs.FirstForm.{IsPlainCall, IsPlainBody, IsPlainTemplate, IsFirstForm}
-use Rattle.wf_manifest.proofs.Each.{All-from_list_all}
 use Rattle.tree_eval.specs.Inside.Walkable.{IsWalkableCall, IsWalkableGroup, IsWalkableBody, IsWalkableTemplate}
 
 short_list : {X : Type 0} (xs : List X) → IsTrue (is_short xs) → length xs ≤ most_members

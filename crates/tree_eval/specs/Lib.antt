@@ -1,3 +1,5 @@
 pub mod Ends
 pub mod Told
 pub mod Inside
+pub use Rattle.wf_manifest.specs.Valid
+pub use Rattle.wf_manifest.specs.FirstForm

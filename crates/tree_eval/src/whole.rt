@@ -103,7 +103,8 @@ pub fn evaluate<R: Recorded>(manifest: &Manifest, recorded: &R) -> Result<Evalua
 pub fn tree<R: Recorded>(manifest: &Manifest, recorded: &R) -> Result<Tree, TreeRefused>
     requires valid { Valid manifest.now }
     requires first { IsFirstForm manifest.now }
-    ensures { result ≢ Err refused.Memory → result ≡ meant_tree manifest.now (R.answers recorded.now) }
+    ensures { result ≢ Err refused.Memory
+        → result ≡ meant_tree manifest.now (R.answers recorded.now) }
 {
     match evaluate(manifest, recorded) {
         Ok(Evaluated { tree, phase: _ }) => Ok(tree),

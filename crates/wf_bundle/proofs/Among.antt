@@ -1,5 +1,5 @@
 -- A name is among those of the templates exactly where a template is found by it.
-use Rattle.std.proofs.Common.{◌≡◌, ℕ, Bool, true, false, cond, ◌&&◌, ◌||◌, List, [], ◌∷◌, Option, Some, None, refl, sym, ap, ◌∙◌}
+use Rattle.std.proofs.Common.{◌≡◌, ℕ, Bool, true, false, cond, ◌&&◌, ◌||◌, List, [], ◌∷◌, Option, Some, None, refl, ap, ◌∙◌}
 use Rattle.std.specs.Prelude.{bytes_eq, is_some}
 use Rattle.std.specs.List.{list_all, find}
 use Rattle.std.specs.Cmp.Lexicographic.{nat_list_eq_equiv}

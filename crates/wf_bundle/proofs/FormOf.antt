@@ -1,5 +1,5 @@
 -- The manifest of a document of the form is valid, and of the first form.
-use Rattle.std.proofs.Common.{◌≡◌, ℕ, List, [], Ok, subst}
+use Rattle.std.proofs.Common.{◌≡◌, [], Ok, subst}
 use Rattle.std.specs.Prelude.{codes}
 use Rattle.serde_json.specs.Data.{Data, Items, no_items, item}
 use Rattle.wf_manifest.specs.declared.manifest.Manifest.{Manifest}

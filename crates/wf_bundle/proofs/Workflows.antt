@@ -1,5 +1,5 @@
 -- What a workflow that is read keeps: it is of the first form, and its lists are within their limits.
-use Rattle.std.proofs.Common.{◌≡◌, ℕ, ◌≤◌, List, [], ◌∷◌, ◌++◌, length, Bool, ◌&&◌, Option, Some, None, Ok, refl, subst}
+use Rattle.std.proofs.Common.{ℕ, ◌≤◌, List, [], ◌∷◌, length, Option, Some, None, Ok, refl, subst}
 use Rattle.std.specs.Prelude.{All, IsTrue, codes}
 use Rattle.std.specs.List.{AllByRecursion, list_all}
 use Rattle.std.proofs.lemmas.Bool.{and_from, le-leb}

@@ -10,7 +10,7 @@ use std::alloc::Global;
 use std::collections::HashSet;
 use std::marker::Model;
 
-/// Whether no name stands twice.
+// Whether no name stands twice.
 pub(crate) fn all_differ(alloc: Global, names: &[&Text]) -> Result<bool, Memory>
     ensures { IfOk result (λ differ. differ ≡ all_differ (map (λ name. name.now) names.now)) }
 {
@@ -34,7 +34,7 @@ fn add_new(names: &mut IndexSet<Text>, name: Text) -> Result<bool, Memory>
     Ok(true)
 }
 
-/// Names that are found without a walk. Contracts see them as their list.
+// Names that are found without a walk. Contracts see them as their list.
 #[derive(Drop)]
 pub(crate) struct NameSet<'a> {
     names: Vec<&'a Text>,

@@ -131,7 +131,8 @@ impl Outcomes {
 
     /// What is planned for the pod of a workflow's node: by name, else the default.
     pub fn outcome(&self, workflow: &Text, node: &Text) -> Option<&PlannedOutcome>
-        ensures { option_map (λ outcome. outcome.now) result ≡ planned_for self.entry.now workflow.now node.now }
+        ensures { option_map (λ outcome. outcome.now) result
+            ≡ planned_for self.entry.now workflow.now node.now }
     {
         match self.pods.get(PodQuery { workflow, node }) {
             Some(outcome) => Some(outcome),
@@ -140,7 +141,7 @@ impl Outcomes {
     }
 }
 
-/// Adds a pod, unless it is there.
+// Adds a pod, unless it is there.
 fn add(pods: &mut IndexMap<PodName, PlannedOutcome>, pod: PlannedPod) -> Result<bool, Memory>
     ensures told { IfOk result (λ added. added ≡ not (list_any (is_same_pod pod) (pods_of pods.old.entries))) }
     ensures kept { IfOk result (λ added. IsTrue added

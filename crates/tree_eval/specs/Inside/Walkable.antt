@@ -1,5 +1,5 @@
 -- What a valid manifest of the first form has in each of its parts, as far as a walk over it needs it.
-use Rattle.std.specs.Prelude.{ℕ, ◌≤◌, List, length, IsTrue, All}
+use Rattle.std.specs.Prelude.{◌≤◌, List, length, IsTrue, All}
 use Rattle.base_types.specs.Limits.{most_members}
 use Rattle.node_names.specs.Names.{is_step_name}
 use Rattle.wf_manifest.specs.declared.calls.Call.{Call}
