@@ -26,7 +26,7 @@ most_seconds = 31536000
 
 -- ---- manifests
 
--- the templates of a workflow, the groups of a template and the steps of a group
+-- the members of a list: templates, groups, the steps of a group, the tasks of a DAG, parameters and arguments
 abbrev pub most_members : ℕ
 most_members = 1000
 

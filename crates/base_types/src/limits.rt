@@ -15,7 +15,7 @@ pub const MOST_LEVELS: usize = 64;
 /// The seconds of a span of time: 365 days.
 pub const MOST_SECONDS: u64 = 31_536_000;
 
-/// The templates of a workflow, the groups of a template and the steps of a group.
+/// The members of a list: templates, groups, the steps of a group, the tasks of a DAG, parameters and arguments.
 pub const MOST_MEMBERS: usize = 1000;
 
 /// The depth of a call.
