@@ -6,7 +6,7 @@ use depends_expr::Depends;
 use tag_text::TagText;
 
 /// An argument (field reference, `Parameter` of `Arguments`).
-#[derive(Drop)]
+#[derive(Debug, Drop)]
 pub struct Argument {
     pub name: Text,
     pub value: TagText,
@@ -16,7 +16,7 @@ pub struct Argument {
 pub type Arguments = List<Argument>;
 
 /// A loop over items (field reference, `withItems`, `withParam` and `withSequence` of `WorkflowStep` and `DAGTask`).
-#[derive(Drop)]
+#[derive(Debug, Drop)]
 pub enum Loop {
     /// The JSON list as it was read.
     Items(Json),
@@ -39,7 +39,7 @@ pub struct ContinueOn {
 }
 
 /// An exit hook (field reference, `LifecycleHook`). `short` says that it was given by `onExit`.
-#[derive(Drop)]
+#[derive(Debug, Drop)]
 pub struct Hook {
     pub template: Text,
     pub arguments: Arguments,
@@ -47,7 +47,7 @@ pub struct Hook {
 }
 
 /// A step, or what a task has in common with one (field reference, `WorkflowStep`).
-#[derive(Drop)]
+#[derive(Debug, Drop)]
 pub struct Call {
     pub name: Text,
     pub template: Text,
@@ -65,7 +65,7 @@ pub type Group = List<Call>;
 pub type Groups = List<Group>;
 
 /// A task of a DAG (field reference, `DAGTask`). `dependencies` are names of tasks.
-#[derive(Drop)]
+#[derive(Debug, Drop)]
 pub struct Task {
     pub call: Call,
     pub depends: Option<Depends>,
@@ -76,7 +76,7 @@ pub struct Task {
 pub type Tasks = List<Task>;
 
 /// A DAG (field reference, `DAGTemplate`). `targets` is empty where `target` is absent.
-#[derive(Drop)]
+#[derive(Debug, Drop)]
 pub struct Dag {
     pub targets: Names,
     pub fail_fast: bool,

@@ -8,7 +8,7 @@ use serde_json::Value;
 use std::marker::Model;
 
 /// A JSON value that contracts see as its data, whatever room it has.
-#[derive(Drop)]
+#[derive(Debug, Drop)]
 pub struct Json {
     value: Value,
 }

@@ -5,7 +5,7 @@ use base_types::Text;
 use tree_types::LockId;
 
 /// A workflow's manifest. The entrypoint and the exit handler are names of templates, both called with `arguments`.
-#[derive(Drop)]
+#[derive(Debug, Drop)]
 pub struct Manifest {
     pub name: Text,
     pub namespace: Text,

@@ -6,7 +6,7 @@ use tag_text::TagText;
 use tree_types::LockId;
 
 /// An input parameter of a template.
-#[derive(Drop)]
+#[derive(Debug, Drop)]
 pub struct Input {
     pub name: Text,
     pub value: Option<TagText>,
@@ -18,7 +18,7 @@ pub type Inputs = List<Input>;
 
 /// A declared output parameter: from a file of the pod (`path`) or from a text with tags (`from`, which is
 /// `valueFrom.parameter`).
-#[derive(Drop)]
+#[derive(Debug, Drop)]
 pub struct OutputDecl {
     pub name: Text,
     pub path: Option<Text>,
@@ -30,7 +30,7 @@ pub struct OutputDecl {
 pub type OutputDecls = List<OutputDecl>;
 
 /// Where a template's outputs are kept (field reference, `Memoize`). `max_age` is in seconds.
-#[derive(Drop)]
+#[derive(Debug, Drop)]
 pub struct Memoize {
     pub key: TagText,
     pub max_age: Option<u64>,
@@ -63,7 +63,7 @@ pub struct Retry {
 }
 
 /// What a template does. The content of `container` and `script` is carried and never read, so a pod has none.
-#[derive(Drop)]
+#[derive(Debug, Drop)]
 pub enum Body {
     Pod,
     Steps(Groups),
@@ -73,7 +73,7 @@ pub enum Body {
 }
 
 /// A template. A retry stands on pods alone, `memoize` on everything but a suspend template.
-#[derive(Drop)]
+#[derive(Debug, Drop)]
 pub struct Template {
     pub name: Text,
     pub inputs: Inputs,
