@@ -1,0 +1,2 @@
+pub mod Attempts
+pub use Rattle.meaning.specs.Pods

@@ -1,0 +1,6 @@
+//! What follows the attempts of a retry that have ended.
+#![tactic(auto)]
+
+mod attempts;
+
+pub use attempts::{AttemptStep, Tried, next_attempt};
