@@ -1,0 +1,28 @@
+-- The first waiter is changed at its place.
+use Rattle.std.proofs.Common.{sym, ◌∙◌, ap}
+use Rattle.std.specs.Prelude.{option_and_then}
+use Rattle.books.specs.declared.Request.{Request}
+use Rattle.books.specs.Books.{held}
+use Rattle.books.specs.Laws.{is_first_for}
+use Rattle.sync_locks.specs.Inside.Rows.{requests_in, first_place}
+use Rattle.sync_locks.proofs.Ranked.{at_place, none_there}
+use Rattle.sync_locks.proofs.Changes.{unchanged, changed_at, stands_at}
+use Rattle.sync_locks.proofs.Places.{next_within}
+use Rattle.sync_locks.proofs.row.pass_on.Goals as goal
+
+pub set_state-requires : goal.set_state-requires
+set_state-requires c = next_within c.args.list.now c.args.place c.in-Some.first (sym c.next_for.ensures ∙ c.in-Some.is)
+
+pub returns-in-None : goal.returns-in-None
+returns-in-None c r h =
+    let rs = requests_in c.args.list.now in
+    let none = ap (option_and_then (λ (q : Request). first_place q.lock.text rs)) (sym h) ∙ sym c.next_for.ensures ∙ c.in-None.is in
+    sym (unchanged (is_first_for r.lock.text rs) held rs (none_there (is_first_for r.lock.text rs) rs none))
+
+pub returns-in-Some : goal.returns-in-Some
+returns-in-Some c r h =
+    let rs = requests_in c.args.list.now in
+    let first = ap (option_and_then (λ (q : Request). first_place q.lock.text rs)) (sym h) ∙ sym c.next_for.ensures ∙ c.in-Some.is in
+    let a = at_place (is_first_for r.lock.text rs) rs c.in-Some.first first in
+    c.set_state.ensures a.found (stands_at (is_first_for r.lock.text rs) rs c.in-Some.first a)
+    ∙ sym (changed_at (is_first_for r.lock.text rs) held rs c.in-Some.first a)
