@@ -41,16 +41,6 @@ fn is_by(saved: &Saved, writer: &HolderKey) -> bool
     saved.writer == *writer
 }
 
-/// Whether a save is not too old.
-fn is_fresh(saved: &Saved, now: u64, max_age: Option<u64>) -> bool
-    ensures { result ≡ saves.is_fresh now max_age saved.now }
-{
-    match max_age {
-        None => true,
-        Some(age) => now.saturating_sub(saved.tick) <= age,
-    }
-}
-
 /// The last save of a key in a cache.
 fn last_save<'a>(list: &'a [Arc<Saved>], cache: &Text, key: &Text) -> Option<&'a Saved>
     ensures { option_copied result ≡ saves.last_save (map arc_value list.now) cache.now key.now }
@@ -116,13 +106,10 @@ impl Cache {
     {
         match last_save(&self.saves, cache, key) {
             None => None,
-            Some(saved) => {
-                if is_fresh(saved, now, max_age) {
-                    Some(&saved.outputs)
-                } else {
-                    None
-                }
-            }
+            Some(saved) => match max_age {
+                Some(age) if now.saturating_sub(saved.tick) > age => None,
+                _ => Some(&saved.outputs),
+            },
         }
     }
 

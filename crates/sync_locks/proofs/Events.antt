@@ -1,8 +1,7 @@
 -- A filing and a release, as the code does them, are those of the definitions.
-use Rattle.std.proofs.Common.{◌≡◌, ℕ, Bool, true, false, nat_lt, List, [], ◌∷◌, ◌++◌, length, take, drop, Some, Result, Ok, Err, refl, sym, ◌∙◌, ap, ap₂, subst}
-use Rattle.std.specs.Prelude.{IsOk, OnOk, OnErr}
+use Rattle.std.proofs.Common.{◌≡◌, ℕ, Bool, true, false, nat_lt, List, [], ◌∷◌, ◌++◌, Some, refl, sym, ◌∙◌, ap, ap₂, subst}
+use Rattle.std.specs.Prelude.{slice_get, slice_set}
 use Rattle.std.specs.List.{list_any}
-use Rattle.std.proofs.lemmas.List.{take_at}
 use Rattle.tree_types.specs.declared.path.LockId.{LockId}
 use Rattle.tree_types.specs.declared.entry.HolderKey.{HolderKey}
 use Rattle.tree_types.specs.declared.entry.Limit.{Limit}
@@ -12,11 +11,10 @@ use Rattle.books.specs.declared.LockState.{LockState}
 use Rattle.books.specs.declared.LockState.TheVariants.{Holding}
 use Rattle.books.specs.Books.{limit_of, holders, has_room, request, filed, freed, released, change_first, request_of}
 use Rattle.books.specs.Laws.{is_of, IsWellKept, FilesOnce, FilesWellKept, FreesWellKept, ReleasesOnce, with_new, passed_on}
-use Rattle.sync_locks.specs.declared.refused.NotHolding.{NotHolding}
-use Rattle.sync_locks.specs.declared.row.Row.{Row}
 use Rattle.sync_locks.specs.Inside.Rows as rows
-use Rattle.sync_locks.specs.Inside.Rows.{state_in, state_by}
-use Rattle.sync_locks.proofs.Changes.{request_nowhere, holder_there}
+use Rattle.sync_locks.specs.Inside.Rows.{place, state_in, state_by}
+use Rattle.sync_locks.proofs.Ranked.{At, at_place}
+use Rattle.sync_locks.proofs.Changes.{stands_at, stands_set, place_within, changed_at, request_at, request_nowhere, holder_there}
 
 -- ---- a filing
 
@@ -37,24 +35,31 @@ module _ (once : FilesOnce) (limits : List Limit) (rs : List Request) (lock : Lo
 
 -- ---- a release
 
--- the rows that were lent come back whole
-pub whole : (new items : List Row) (n : ℕ) → length new ≡ n → take n (new ++ drop (length new) items) ≡ new
-whole new items n e = take_at new (drop (length new) items) n e
+some_same : (a b : Request) → Some a ≡ Some b → a ≡ b
+some_same a b e = cc
 
-module _ (once : ReleasesOnce) (frees : FreesWellKept) (limits : List Limit) (rs ss : List Request) (key : HolderKey) (kept : IsWellKept limits rs) where
-  abbrev PassedOn : Type 0
-  PassedOn = (r : Request) → request_of rs key ≡ Some r → ss ≡ passed_on r.lock.text (change_first (is_of key) released rs)
+-- the request of the key is released at its place, and its lock passed on from there
+module _ (once : ReleasesOnce) (frees : FreesWellKept) (limits : List Limit) (rs middle after : List Request) (key : HolderKey) (i : ℕ) (kept : IsWellKept limits rs) (placed : place (is_of key) rs ≡ Some i) (holds : state_in key rs ≡ Some Holding) (set : (r : Request) → slice_get rs i ≡ Some r → middle ≡ slice_set rs i (released r)) (passed : (r : Request) → slice_get middle i ≡ Some r → after ≡ passed_on r.lock.text middle) where
+  a : At (is_of key) rs i
+  a = at_place (is_of key) rs i placed
 
-  freed_by : state_in key rs ≡ Some Holding → PassedOn → ss ≡ freed limits key rs
-  freed_by h p = by (holder_there key rs h)
+  middle_is : middle ≡ slice_set rs i (released a.found)
+  middle_is = set a.found (stands_at (is_of key) rs i a)
+
+  after_is : after ≡ passed_on a.found.lock.text (change_first (is_of key) released rs)
+  after_is =
+      passed (released a.found) (ap (λ (x : List Request). slice_get x i) middle_is ∙ stands_set rs i (released a.found) (place_within (is_of key) rs i a))
+      ∙ ap (passed_on a.found.lock.text) (middle_is ∙ sym (changed_at (is_of key) released rs i a))
+
+  pub freed_rows : after ≡ freed limits key rs
+  freed_rows = by (holder_there key rs holds)
     where
-      by : (r : Request) × (request_of rs key ≡ Some r) × (r.state ≡ Holding) → ss ≡ freed limits key rs
-      by x = p x.0 x.1 ∙ sym (once limits rs key x.0 kept x.1 x.2)
+      by : (r : Request) × (request_of rs key ≡ Some r) × (r.state ≡ Holding) → after ≡ freed limits key rs
+      by x =
+          let same = some_same x.0 a.found (sym x.1 ∙ request_at key rs i a) in
+          after_is
+          ∙ ap (λ (q : Request). passed_on q.lock.text (change_first (is_of key) released rs)) (sym same)
+          ∙ sym (once limits rs key x.0 kept x.1 x.2)
 
-  pub freed_row : (result : Result (Unit {0}) NotHolding) → (IsOk result → state_in key rs ≡ Some Holding) → OnOk result PassedOn → OnOk result (ss ≡ freed limits key rs)
-  freed_row (Ok x) held ok = freed_by (held refl) ok
-  freed_row (Err e) held ok = tt
-
-  pub freed_kept : (result : Result (Unit {0}) NotHolding) → (IsOk result → state_in key rs ≡ Some Holding) → OnOk result PassedOn → OnErr result (ss ≡ rs) → IsWellKept limits ss
-  freed_kept (Ok x) held ok err = subst (IsWellKept limits) (sym (freed_by (held refl) ok)) (frees limits rs key kept)
-  freed_kept (Err e) held ok err = subst (IsWellKept limits) (sym err) kept
+  pub freed_kept : IsWellKept limits after
+  freed_kept = subst (IsWellKept limits) (sym freed_rows) (frees limits rs key kept)

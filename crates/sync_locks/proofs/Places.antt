@@ -1,5 +1,5 @@
 -- What stands at places of rows, and the first waiter as one row more is looked at.
-use Rattle.std.proofs.Common.{◌≡◌, ℕ, ◌<◌, ◌≤◌, Bool, true, false, cond, List, [], ◌∷◌, ◌++◌, length, take, get_or, Option, Some, None, option_map, refl, sym, ◌∙◌, ap, ap₂, arith, append_assoc}
+use Rattle.std.proofs.Common.{◌≡◌, ℕ, zero, suc, ◌<◌, ◌≤◌, Bool, true, false, cond, List, [], ◌∷◌, ◌++◌, length, take, get_or, Option, Some, None, option_map, refl, sym, ◌∙◌, ap, ap₂, arith, append_assoc}
 use Rattle.std.specs.Prelude.{slice_get, option_and_then}
 use Rattle.std.proofs.lemmas.List.{length-map}
 use Rattle.std.specs.List.{list_any}
@@ -16,6 +16,14 @@ use Rattle.sync_locks.proofs.Changes.{place_within}
 
 pub stands : (rows : List Row) (i : ℕ) (row : Row) → i < length rows → row ≡ get_or rows i row → slice_get (requests_in rows) i ≡ Some (request_in row)
 stands rows i row h e = slice_get-map request_in rows i ∙ ap (option_map request_in) (slice_get_read rows (length rows) i row refl h e)
+
+some_within : (rs : List Request) (i : ℕ) (r : Request) → slice_get rs i ≡ Some r → i < length rs
+some_within [] i r e = absurd (cc e)
+some_within (q ∷ rs) zero r e = omega arith
+some_within (q ∷ rs) (suc i) r e = let h = some_within rs i r e in omega arith
+
+pub row_within : (rows : List Row) (i : ℕ) (r : Request) → slice_get (requests_in rows) i ≡ Some r → i < length rows
+row_within rows i r e = let h = some_within (requests_in rows) i r e in let l = length-map rows request_in in omega arith
 
 pub within : (rows : List Row) (test : Request → Bool) (x : ℕ) → place test (requests_in rows) ≡ Some x → x < length rows
 within rows test x e =

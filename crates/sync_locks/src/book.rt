@@ -3,7 +3,8 @@
 use crate::limit::limit_of;
 use crate::refused::{FileRefused, NotHolding};
 use crate::row::{
-    Asked, Row, add_row, holders_beside, holders_of, new_state, release_row, share_rows, state_in,
+    Asked, Row, add_row, holder_of, holders_beside, holders_of, new_state, pass_on, set_state,
+    share_rows, state_in,
 };
 use base_types::{Memory, TryCopy};
 use books::{LockState, laws};
@@ -76,7 +77,14 @@ impl LockBook {
     {
         laws::stays_well_kept();
         laws::releases_once();
-        release_row(&mut self.rows, key)
+        match holder_of(&self.rows, key) {
+            None => Err(NotHolding),
+            Some(place) => {
+                set_state(&mut self.rows, place, LockState::Released);
+                pass_on(&mut self.rows, place);
+                Ok(())
+            }
+        }
     }
 
     /// How the request of a key stands.

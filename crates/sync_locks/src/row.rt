@@ -1,6 +1,6 @@
 //! The requests of a book, and the scans over them.
 
-ghost use Rattle.std.specs.Prelude.{◌≡◌, ◌<◌, length, true, false, IfOk, OnOk, OnErr, MatchOption, ◌↔◌, ◌++◌, ◌∷◌, [], nat_lt, IsOk, slice_get, slice_set};
+ghost use Rattle.std.specs.Prelude.{◌≡◌, ◌<◌, length, true, false, IfOk, OnOk, OnErr, MatchOption, ◌++◌, ◌∷◌, [], nat_lt, vec_len, slice_get, slice_set};
 ghost use Rattle.std.specs.Option.{ForSome};
 ghost use Rattle.std.specs.List.{list_any};
 ghost use Rattle.books.specs.declared.Request.{Request};
@@ -8,7 +8,6 @@ ghost use Rattle.books.specs.Books as books;
 ghost use Rattle.books.specs.Laws as laws;
 ghost use Rattle.sync_locks.specs.Inside.Rows as rows;
 
-use crate::NotHolding;
 use crate::ranking::is_before;
 use base_types::Memory;
 use books::{LockState, laws};
@@ -198,20 +197,23 @@ fn next_for(list: &[Row], place: usize) -> Option<usize>
     first_waiter(list, &list[place].asked.lock)
 }
 
-fn set_state(list: &mut [Row], place: usize, state: LockState)
-    requires { place < length list.old }
-    ensures { (r : Request) → slice_get (rows.requests_in list.old) place ≡ Some r
-        → rows.requests_in list.new
-        ≡ slice_set (rows.requests_in list.old) place (record r { state = state }) }
+/// Gives a request another state.
+pub(crate) fn set_state(list: &mut Vec<Row>, place: usize, state: LockState)
+    requires { place < vec_len list.old }
+    ensures len { vec_len list.new ≡ vec_len list.old }
+    ensures set { (r : Request) → slice_get (rows.requests_in list.old.items) place ≡ Some r
+        → rows.requests_in list.new.items
+        ≡ slice_set (rows.requests_in list.old.items) place (record r { state = state }) }
 {
     list[place].state = state;
 }
 
 /// Hands the lock of a request to its first waiter, if there is one.
-fn pass_on(list: &mut [Row], place: usize)
-    requires { place < length list.old }
-    ensures { (r : Request) → slice_get (rows.requests_in list.old) place ≡ Some r
-        → rows.requests_in list.new ≡ laws.passed_on r.lock.text (rows.requests_in list.old) }
+pub(crate) fn pass_on(list: &mut Vec<Row>, place: usize)
+    requires { place < vec_len list.old }
+    ensures { (r : Request) → slice_get (rows.requests_in list.old.items) place ≡ Some r
+        → rows.requests_in list.new.items
+        ≡ laws.passed_on r.lock.text (rows.requests_in list.old.items) }
 {
     match next_for(list, place) {
         None => {}
@@ -219,26 +221,20 @@ fn pass_on(list: &mut [Row], place: usize)
     }
 }
 
-/// Releases the lock that a key holds, and hands it on.
-pub(crate) fn release_row(list: &mut [Row], key: &HolderKey) -> Result<(), NotHolding>
-    ensures held { IsOk result
-        ↔ (rows.state_in key.now (rows.requests_in list.old) ≡ Some LockState.Holding) }
-    ensures ok { OnOk result ((r : Request)
-        → books.request_of (rows.requests_in list.old) key.now ≡ Some r
-        → rows.requests_in list.new
-        ≡ laws.passed_on r.lock.text
-        (books.change_first (laws.is_of key.now) books.released (rows.requests_in list.old))) }
-    ensures err { OnErr result (rows.requests_in list.new ≡ rows.requests_in list.old) }
+/// Where the request of a key stands, if it holds its lock.
+pub(crate) fn holder_of(list: &[Row], key: &HolderKey) -> Option<usize>
+    ensures { MatchOption result
+        (¬ (rows.state_in key.now (rows.requests_in list.now) ≡ Some LockState.Holding))
+        (λ i. (rows.place (laws.is_of key.now) (rows.requests_in list.now) ≡ Some i)
+        × (rows.state_in key.now (rows.requests_in list.now) ≡ Some LockState.Holding)) }
 {
     match find(list, key) {
-        None => Err(NotHolding),
+        None => None,
         Some(found) => {
             if matches!(found.state, LockState::Holding) {
-                set_state(list, found.place, LockState::Released);
-                pass_on(list, found.place);
-                Ok(())
+                Some(found.place)
             } else {
-                Err(NotHolding)
+                None
             }
         }
     }
