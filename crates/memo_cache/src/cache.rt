@@ -41,7 +41,7 @@ fn is_by(saved: &Saved, writer: &HolderKey) -> bool
     saved.writer == *writer
 }
 
-/// The last save of a key in a cache.
+// The last save of a key in a cache.
 fn last_save<'a>(list: &'a [Arc<Saved>], cache: &Text, key: &Text) -> Option<&'a Saved>
     ensures { option_copied result ≡ saves.last_save (map arc_value list.now) cache.now key.now }
 {
@@ -145,7 +145,7 @@ impl Cache {
 }
 
 impl TryCopy for Cache {
-    /// An equal cache, which shares the saves.
+    // An equal cache, which shares the saves.
     fn copy(&self) -> Result<Cache, Memory> {
         Ok(Cache {
             saves: share(&self.saves, *self.saves.allocator())?,

@@ -1,4 +1,4 @@
-//! The lock book.
+//! The lock book. Its functions call the laws of `books`, which do nothing, for what they say.
 
 use crate::limit::limit_of;
 use crate::refused::{FileRefused, NotHolding};
@@ -14,7 +14,7 @@ use tree_types::{HolderKey, Limits, LockId, Rank};
 
 /// Requests for locks in order of filing, which contracts see with the limits. No waiter's lock has room, no lock has more
 /// holders than its limit, and each key has at most one request.
-#[derive(Debug, Drop)]
+#[derive(Drop)]
 pub struct LockBook {
     limits: Arc<Limits>,
     rows: Vec<Row>,
@@ -102,7 +102,7 @@ impl LockBook {
         holders_of(&self.rows, lock)
     }
 
-    /// What every book keeps.
+    /// What every book keeps. It does nothing.
     pub fn well_kept(&self)
         ensures { IsWellKept self.now.limits self.now.requests }
     {

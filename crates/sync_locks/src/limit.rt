@@ -5,7 +5,7 @@ ghost use Rattle.books.specs.Books as books;
 
 use tree_types::{Limits, LockId};
 
-/// The first number that is given for a lock, and 0 where none is.
+// The first number that is given for a lock, and 0 where none is.
 fn given(limits: &Limits, lock: &LockId) -> u64
     ensures { result ≡ books.given limits.now lock.now.text }
 {
@@ -17,7 +17,7 @@ fn given(limits: &Limits, lock: &LockId) -> u64
     0
 }
 
-/// The limit of a lock, which is 1 for a mutex.
+// The limit of a lock, which is 1 for a mutex.
 pub(crate) fn limit_of(limits: &Limits, lock: &LockId) -> u64
     ensures { result ≡ books.limit_of limits.now lock.now.text }
 {

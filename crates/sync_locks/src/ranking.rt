@@ -6,7 +6,7 @@ ghost use Rattle.books.specs.Books as books;
 use std::cmp::Ordering;
 use tree_types::Rank;
 
-/// Higher priority, older creation, the workflow's name, its own request, the node's name.
+// Higher priority, older creation, the workflow's name, its own request, the node's name.
 fn compare(a: &Rank, b: &Rank) -> Ordering
     ensures { result ≡ books.rank_cmp a.now b.now }
 {
@@ -18,7 +18,7 @@ fn compare(a: &Rank, b: &Rank) -> Ordering
         .then_with(|| a.name.cmp(&b.name))
 }
 
-/// Whether a waiter ranks before another.
+// Whether a waiter ranks before another.
 pub(crate) fn is_before(a: &Rank, b: &Rank) -> bool
     ensures { result ≡ books.before a.now b.now }
 {

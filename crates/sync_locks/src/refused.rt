@@ -25,22 +25,6 @@ impl From<base::Memory> for FileRefused {
     }
 }
 
-impl From<AllocError> for FileRefused {
-    ghost from_gives = { λ _ e. e ≡ refused.Memory };
-
-    fn from(_: AllocError) -> Self {
-        FileRefused::Memory
-    }
-}
-
-impl<T: Drop> From<AllocFailed<T>> for FileRefused {
-    ghost from_gives = { λ _ e. e ≡ refused.Memory };
-
-    fn from(_: AllocFailed<T>) -> Self {
-        FileRefused::Memory
-    }
-}
-
 /// The key holds no lock, so none is released.
 #[derive(Clone, Copy, Debug, PartialEq, Eq, Error)]
 #[error("the key holds no lock")]

@@ -15,23 +15,23 @@ use std::alloc::Global;
 use std::sync::Arc;
 use tree_types::{HolderKey, LockId, Rank};
 
-/// What a key asked for, which never changes.
-#[derive(Debug, Drop)]
+// What a key asked for, which never changes.
+#[derive(Drop)]
 pub(crate) struct Asked {
     pub lock: LockId,
     pub key: HolderKey,
     pub rank: Rank,
 }
 
-/// A request: what was asked for, which copies of a book share, and how it stands.
-#[derive(Debug, Drop)]
+// A request: what was asked for, which copies of a book share, and how it stands.
+#[derive(Drop)]
 pub(crate) struct Row {
     pub asked: Arc<Asked>,
     pub state: LockState,
 }
 
 impl Row {
-    /// The same request, which shares what was asked for.
+    // The same request, which shares what was asked for.
     fn share(&self) -> Result<Row, Memory>
         ensures { IfOk result (λ row. rows.request_in row ≡ rows.request_in self.now) }
     {
@@ -60,7 +60,7 @@ impl Row {
     }
 }
 
-/// Adds a request at the end.
+// Adds a request at the end.
 pub(crate) fn add_row(list: &mut Vec<Row>, asked: Asked, state: LockState) -> Result<(), Memory>
     ensures ok { OnOk result
         (rows.requests_in list.new.items ≡ rows.requests_in list.old.items ++ rows.request_of asked state ∷ []) }
@@ -71,7 +71,7 @@ pub(crate) fn add_row(list: &mut Vec<Row>, asked: Asked, state: LockState) -> Re
     Ok(())
 }
 
-/// The same requests.
+// The same requests.
 pub(crate) fn share_rows(list: &[Row], alloc: Global) -> Result<Vec<Row>, Memory>
     ensures { IfOk result (λ copy. rows.requests_in copy.items ≡ rows.requests_in list.now) }
 {
@@ -82,7 +82,7 @@ pub(crate) fn share_rows(list: &[Row], alloc: Global) -> Result<Vec<Row>, Memory
     Ok(copy)
 }
 
-/// The request of a key, by its place and how it stands.
+// The request of a key, by its place and how it stands.
 #[derive(Clone, Copy)]
 struct Found {
     place: usize,
@@ -104,7 +104,7 @@ fn find(list: &[Row], key: &HolderKey) -> Option<Found>
     None
 }
 
-/// How the request of a key stands.
+// How the request of a key stands.
 pub(crate) fn state_in(list: &[Row], key: &HolderKey) -> Option<LockState>
     ensures { result ≡ rows.state_in key.now (rows.requests_in list.now) }
 {
@@ -114,7 +114,7 @@ pub(crate) fn state_in(list: &[Row], key: &HolderKey) -> Option<LockState>
     }
 }
 
-/// How many hold a lock.
+// How many hold a lock.
 pub(crate) fn holders_of(list: &[Row], lock: &LockId) -> u64
     ensures { result ≡ books.holders lock.now.text (rows.requests_in list.now) }
 {
@@ -127,7 +127,7 @@ pub(crate) fn holders_of(list: &[Row], lock: &LockId) -> u64
     count
 }
 
-/// How many hold a lock, where the key is new.
+// How many hold a lock, where the key is new.
 pub(crate) fn holders_beside(list: &[Row], lock: &LockId, key: &HolderKey) -> Option<u64>
     ensures { MatchOption result
         (list_any (laws.is_of key.now) (rows.requests_in list.now) ≡ true)
@@ -146,7 +146,7 @@ pub(crate) fn holders_beside(list: &[Row], lock: &LockId, key: &HolderKey) -> Op
     Some(count)
 }
 
-/// How a new request stands.
+// How a new request stands.
 pub(crate) fn new_state(holders: u64, limit: u64) -> LockState
     ensures { result ≡ rows.state_by (nat_lt holders limit) }
 {
@@ -157,7 +157,7 @@ pub(crate) fn new_state(holders: u64, limit: u64) -> LockState
     }
 }
 
-/// Which of two waiters goes first: the one that was found so far, if there is one, or a later one.
+// Which of two waiters goes first: the one that was found so far, if there is one, or a later one.
 fn sooner(list: &[Row], first: Option<usize>, later: usize) -> usize
     requires later { later < length list.now }
     requires first { ForSome first (λ f. f < length list.now) }
@@ -175,7 +175,7 @@ fn sooner(list: &[Row], first: Option<usize>, later: usize) -> usize
     }
 }
 
-/// Where the first waiter of a lock stands.
+// Where the first waiter of a lock stands.
 pub(crate) fn first_waiter(list: &[Row], lock: &LockId) -> Option<usize>
     ensures { result ≡ rows.first_place lock.now.text (rows.requests_in list.now) }
 {
@@ -189,7 +189,7 @@ pub(crate) fn first_waiter(list: &[Row], lock: &LockId) -> Option<usize>
     first
 }
 
-/// Where the first waiter for the lock of a request stands.
+// Where the first waiter for the lock of a request stands.
 fn next_for(list: &[Row], place: usize) -> Option<usize>
     requires { place < length list.now }
     ensures { result ≡ rows.next_place place (rows.requests_in list.now) }
@@ -197,7 +197,7 @@ fn next_for(list: &[Row], place: usize) -> Option<usize>
     first_waiter(list, &list[place].asked.lock)
 }
 
-/// Gives a request another state.
+// Gives a request another state.
 pub(crate) fn set_state(list: &mut Vec<Row>, place: usize, state: LockState)
     requires { place < vec_len list.old }
     ensures len { vec_len list.new ≡ vec_len list.old }
@@ -208,7 +208,7 @@ pub(crate) fn set_state(list: &mut Vec<Row>, place: usize, state: LockState)
     list[place].state = state;
 }
 
-/// Hands the lock of a request to its first waiter, if there is one.
+// Hands the lock of a request to its first waiter, if there is one.
 pub(crate) fn pass_on(list: &mut Vec<Row>, place: usize)
     requires { place < vec_len list.old }
     ensures { (r : Request) → slice_get (rows.requests_in list.old.items) place ≡ Some r
@@ -221,7 +221,7 @@ pub(crate) fn pass_on(list: &mut Vec<Row>, place: usize)
     }
 }
 
-/// Where the request of a key stands, if it holds its lock.
+// Where the request of a key stands, if it holds its lock.
 pub(crate) fn holder_of(list: &[Row], key: &HolderKey) -> Option<usize>
     ensures { MatchOption result
         (¬ (rows.state_in key.now (rows.requests_in list.now) ≡ Some LockState.Holding))
