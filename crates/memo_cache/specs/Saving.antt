@@ -1,0 +1,8 @@
+-- A save of its parts.
+use Rattle.std.specs.Prelude.{ℕ, List}
+use Rattle.tree_types.specs.declared.entry.HolderKey.{HolderKey}
+use Rattle.tree_types.specs.declared.outcome.Outputs.{Outputs}
+use Rattle.saves.specs.declared.Saved.{Saved}
+
+abbrev pub save_of : List ℕ → List ℕ → HolderKey → Outputs → ℕ → Saved
+save_of cache key writer outputs tick = record { cache = cache; key = key; writer = writer; outputs = outputs; tick = tick }

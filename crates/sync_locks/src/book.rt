@@ -1,0 +1,121 @@
+//! The lock book. Its functions call the laws of `books`, which do nothing, for what they say.
+
+use crate::limit::limit_of;
+use crate::refused::{FileRefused, NotHolding};
+use crate::row::{
+    Asked, Row, add_row, holder_of, holders_beside, holders_of, new_state, pass_on, set_state,
+    share_rows, state_in,
+};
+use base_types::{Memory, TryCopy};
+use books::{LockState, laws};
+use std::marker::Model;
+use std::sync::Arc;
+use tree_types::{HolderKey, Limits, LockId, Rank};
+
+/// Requests for locks in order of filing, which contracts see with the limits. No waiter's lock has room, no lock has more
+/// holders than its limit, and each key has at most one request.
+#[derive(Drop)]
+pub struct LockBook {
+    limits: Arc<Limits>,
+    rows: Vec<Row>,
+}
+
+impl Model for LockBook {
+    ghost use Rattle.sync_locks.specs.Book.{Book};
+
+    ghost Value = { Book };
+
+    ghost use Rattle.books.specs.Laws.{IsWellKept};
+    ghost use Rattle.sync_locks.specs.Inside.Rows.{requests_in};
+
+    ghost view = { λ book. record { limits = book.limits.value; requests = requests_in book.rows.items } };
+
+    ghost invariant = { λ book. IsWellKept book.limits.value (requests_in book.rows.items) };
+}
+
+impl LockBook {
+    ghost use Rattle.std.specs.Prelude.{◌≡◌, ◌↔◌, ◌≤◌, IsOk, IsErrOf, IfOk, OnOk, OnErr, IsSome};
+    ghost use Rattle.books.specs.Books as books;
+    ghost use Rattle.books.specs.Laws.{IsWellKept};
+    ghost use Rattle.sync_locks.specs.Book.{unfilled, with_filed, with_freed, state_of};
+
+    /// The book without requests.
+    pub fn new(limits: Limits) -> Result<LockBook, Memory>
+        ensures { IfOk result (λ book. book ≡ unfilled limits) }
+    {
+        laws::stays_well_kept();
+        let alloc = limits.allocator();
+        Ok(LockBook {
+            limits: Arc::new(alloc, limits)?,
+            rows: Vec::new(alloc),
+        })
+    }
+
+    /// Files a request for a lock, which holds at once where the lock has room, and waits else.
+    pub fn file(&mut self, lock: LockId, key: HolderKey, rank: Rank) -> Result<(), FileRefused>
+        ensures known { IsErrOf result FileRefused.Known ↔ IsSome (state_of key self.old) }
+        ensures ok { OnOk result (self.new ≡ with_filed lock key rank self.old) }
+        ensures err { OnErr result (self.new ≡ self.old) }
+    {
+        laws::stays_well_kept();
+        laws::files_once();
+        match holders_beside(&self.rows, &lock, &key) {
+            None => Err(FileRefused::Known),
+            Some(holders) => {
+                let state = new_state(holders, limit_of(&self.limits, &lock));
+                add_row(&mut self.rows, Asked { lock, key, rank }, state)?;
+                Ok(())
+            }
+        }
+    }
+
+    /// Releases the lock that a key holds. It goes to the first of its waiters.
+    pub fn release(&mut self, key: &HolderKey) -> Result<(), NotHolding>
+        ensures held { IsOk result ↔ (state_of key.now self.old ≡ Some LockState.Holding) }
+        ensures ok { OnOk result (self.new ≡ with_freed key.now self.old) }
+        ensures err { OnErr result (self.new ≡ self.old) }
+    {
+        laws::stays_well_kept();
+        laws::releases_once();
+        match holder_of(&self.rows, key) {
+            None => Err(NotHolding),
+            Some(place) => {
+                set_state(&mut self.rows, place, LockState::Released);
+                pass_on(&mut self.rows, place);
+                Ok(())
+            }
+        }
+    }
+
+    /// How the request of a key stands.
+    pub fn state(&self, key: &HolderKey) -> Option<LockState>
+        ensures { result ≡ state_of key.now self.now }
+    {
+        state_in(&self.rows, key)
+    }
+
+    /// How many hold a lock.
+    pub fn holders(&self, lock: &LockId) -> u64
+        ensures count { result ≡ books.holders lock.now.text self.now.requests }
+        ensures within { result ≤ books.limit_of self.now.limits lock.now.text }
+    {
+        holders_of(&self.rows, lock)
+    }
+
+    /// What every book keeps. It does nothing.
+    pub fn well_kept(&self)
+        ensures { IsWellKept self.now.limits self.now.requests }
+    {
+        let _ = &self.rows;
+    }
+}
+
+impl TryCopy for LockBook {
+    /// An equal book, which shares what was asked for.
+    fn copy(&self) -> Result<LockBook, Memory> {
+        Ok(LockBook {
+            limits: Arc::try_clone(&self.limits)?,
+            rows: share_rows(&self.rows, *self.rows.allocator())?,
+        })
+    }
+}

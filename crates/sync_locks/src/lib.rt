@@ -1,0 +1,11 @@
+//! The lock book as code: which keys wait for which locks, which hold them, and to whom a lock goes.
+#![tactic(auto)]
+
+mod book;
+mod limit;
+mod ranking;
+mod refused;
+mod row;
+
+pub use book::LockBook;
+pub use refused::{FileRefused, NotHolding};

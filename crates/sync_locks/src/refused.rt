@@ -1,0 +1,31 @@
+//! Why a book does not take a filing or a release.
+
+ghost use Rattle.std.specs.Prelude.{◌≡◌};
+ghost use Rattle.sync_locks.specs.declared.refused.FileRefused.TheVariants as refused;
+
+use base_types as base;
+use std::alloc::{AllocError, AllocFailed};
+use thiserror::Error;
+
+/// Why a request is not filed.
+#[derive(Clone, Copy, Debug, PartialEq, Eq, Error)]
+pub enum FileRefused {
+    /// The key has a request already, however it stands.
+    #[error("the key has a request already")]
+    Known,
+    #[error("out of memory")]
+    Memory,
+}
+
+impl From<base::Memory> for FileRefused {
+    ghost from_gives = { λ _ e. e ≡ refused.Memory };
+
+    fn from(_: base::Memory) -> Self {
+        FileRefused::Memory
+    }
+}
+
+/// The key holds no lock, so none is released.
+#[derive(Clone, Copy, Debug, PartialEq, Eq, Error)]
+#[error("the key holds no lock")]
+pub struct NotHolding;
