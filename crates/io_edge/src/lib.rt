@@ -7,6 +7,7 @@
 mod call_plan;
 mod memory_sink;
 mod memory_source;
+mod outage;
 mod sink;
 mod source;
 mod standard;
@@ -15,6 +16,7 @@ mod transfer;
 pub use call_plan::CallNumbers;
 pub use memory_sink::MemSink;
 pub use memory_source::MemSource;
+pub use outage::{NoOutage, Outage, PlannedOutage};
 pub use sink::Sink;
 pub use source::{Failed, Source};
 pub use standard::{StdSink, StdSource};
