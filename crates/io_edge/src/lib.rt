@@ -5,6 +5,7 @@
 #![tactic(auto)]
 
 mod call_plan;
+mod gate;
 mod memory_sink;
 mod memory_source;
 mod outage;
@@ -14,6 +15,7 @@ mod standard;
 mod transfer;
 
 pub use call_plan::CallNumbers;
+pub use gate::{Gate, HoldGate, OpenGate};
 pub use memory_sink::MemSink;
 pub use memory_source::MemSource;
 pub use outage::{NoOutage, Outage, PlannedOutage};
