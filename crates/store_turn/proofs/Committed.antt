@@ -13,7 +13,7 @@ use Rattle.store_turn.specs.Tickets.{has_ticket, has_that, ViewOk, InTurn}
 use Rattle.store_turn.proofs.Lists.{none_some, starts_here, starts_on}
 use Rattle.store_turn.proofs.Places.{times_snoc, rising_snoc, below_snoc}
 use Rattle.store_turn.proofs.Sums.{sum_set, each_set, set_there}
-use Rattle.store_turn.proofs.Tickets.{alone_read, within_more}
+use Rattle.store_turn.proofs.Tickets.{alone_read, within_more, a_ticket}
 
 module _ {E T B : Type 0} (list : T → List E) (base : T → B) (fixed : B) (s : State T (View E B)) (t : InTurn list base fixed s) (id : ℕ) (v : View E B) (at : get_elem? s.views id ≡ some v)
     (read : v.read ≡ true) (y : T) (later : StartsWith (list y) v.seen) (more : length (list y) ≡ length v.seen + 1) (fits : length (list y) < 2 ^ 64) where
@@ -22,6 +22,9 @@ module _ {E T B : Type 0} (list : T → List E) (base : T → B) (fixed : B) (s 
 
   count : length v.seen ≡ t.entries
   count = ((t.views id v at).read read).1
+
+  share : 1 ≤ v.share
+  share = let part = (t.views id v at).part in let one = a_ticket v t.next ((t.views id v at).served serves) in omega arith
 
   -- no other seat has read
   only : (j : ℕ) (x : View E B) → j ≢ id → get_elem? s.views j ≡ some x → x.read ≡ true → ⊥
@@ -62,6 +65,7 @@ module _ {E T B : Type 0} (list : T → List E) (base : T → B) (fixed : B) (s 
             subst (λ l. StartsWith l x.seen) is (each_set (λ k (u : View E B). StartsWith (list y) u.seen) s.views id w (λ k u n e. starts_on u.seen v.seen (list y) (t.under id v at read k u e) later) (starts_here (list y)) i x ex);
         home = λ z e. absurd (none_some z (sym (t.taken id v at read) ∙ e));
         one = t.one;
+        full = (id, (w, set_there s.views id v w at, record { share = share; all = (let c = count in omega arith) }));
         away = λ e. (id, (w, set_there s.views id v w at, read));
         taken = λ j x e q. t.taken id v at read;
         places = keeps_places;

@@ -9,9 +9,9 @@ use Rattle.store_turn.specs.declared.rule.View.{View}
 use Rattle.store_turn.specs.Lists.{StartsWith}
 use Rattle.store_turn.specs.Places.{times}
 use Rattle.store_turn.specs.Steps.{did_read, reading}
-use Rattle.store_turn.specs.Tickets.{has_ticket, has_that, ViewOk, InTurn}
+use Rattle.store_turn.specs.Tickets.{has_ticket, has_that, ViewOk, InTurn, HasSeen}
 use Rattle.store_turn.proofs.Lists.{some_one, true_false, none_some, starts_here, starts_on, starts_length}
-use Rattle.store_turn.proofs.Sums.{sum_set, each_set, set_there}
+use Rattle.store_turn.proofs.Sums.{sum_set, each_set, set_there, some_set}
 use Rattle.store_turn.proofs.Tickets.{alone_read, a_ticket}
 
 module _ {E T B : Type 0} (list : T → List E) (base : T → B) (fixed : B) (s : State T (View E B)) (t : InTurn list base fixed s) (id : ℕ) (v : View E B) (at : get_elem? s.views id ≡ some v)
@@ -61,6 +61,7 @@ module _ {E T B : Type 0} (list : T → List E) (base : T → B) (fixed : B) (s 
           subst (λ l. StartsWith l x.seen) is (each_set (λ k z. StartsWith (list y) z.seen) s.views id reader (λ k z n e. h.2 k z e) (starts_here (list y)) i x ex);
       home = λ z e. absurd (none_some z e);
       one = (none, refl);
+      full = some_set (HasSeen t.entries) s.views id v reader at (λ h. record { share = h.share; all = (t.home y here).0 }) t.full;
       away = λ e. (id, (reader, set_there s.views id v reader at, refl));
       taken = λ j x e q. refl;
       places = λ x. (let e = same_sum (λ (z : View E B). times x z.places) refl in let p = t.places x in omega arith);

@@ -1,19 +1,18 @@
 -- A seat that draws a ticket keeps the rule.
-use Rattle.std.proofs.Common.{◌≡◌, ◌≢◌, ℕ, ◌+◌, ◌%◌, ◌^◌, ◌≤◌, true, false, List, [], ◌∷◌, set, refl, sym, ◌∙◌, ap, arith, subst}
+use Rattle.std.proofs.Common.{◌≡◌, ℕ, ◌+◌, ◌%◌, ◌^◌, ◌≤◌, true, false, List, [], ◌∷◌, set, refl, sym, ◌∙◌, ap, arith, subst}
 use Rattle.std.specs.Prelude.{None, slice_index}
 use mathlib.Core.Option.{some, none}
 use lib.ListN.{get_elem?}
 use Rattle.atomic_table.specs.Table.{State, keeps, step, Allows}
-use Rattle.atomic_table.proofs.Lists.{set_else}
 use Rattle.std.proofs.Math.Nat.{add-mul-mod_self_right, mod-add-div'}
 use Rattle.std.proofs.Common.{◌/◌}
 use Rattle.store_turn.specs.declared.rule.View.{View}
 use Rattle.store_turn.specs.Lists.{StartsWith}
 use Rattle.store_turn.specs.Places.{times}
 use Rattle.store_turn.specs.Steps.{drew, with_ticket}
-use Rattle.store_turn.specs.Tickets.{has_ticket, has_that, ViewOk, InTurn}
-use Rattle.store_turn.proofs.Lists.{some_one, true_false}
-use Rattle.store_turn.proofs.Sums.{sum_set, each_set}
+use Rattle.store_turn.specs.Tickets.{has_ticket, has_that, ViewOk, InTurn, HasSeen}
+use Rattle.store_turn.proofs.Lists.{true_false}
+use Rattle.store_turn.proofs.Sums.{sum_set, each_set, some_set}
 use Rattle.store_turn.proofs.Tickets.{no_ticket, no_that, within_more}
 
 module _ {E T B : Type 0} (list : T → List E) (base : T → B) (fixed : B) (s : State T (View E B)) (t : InTurn list base fixed s) (id : ℕ) (v : View E B) (at : get_elem? s.views id ≡ some v)
@@ -44,9 +43,8 @@ module _ {E T B : Type 0} (list : T → List E) (base : T → B) (fixed : B) (s 
         each_set (λ k z. StartsWith y.seen z.seen) s.views id drawer (λ k z n e. t.under j y reader r k z e) (t.under j y reader r id v at) i x ex;
     home = λ y e. let h = t.home y e in (h.0, h.1, each_set (λ j x. StartsWith (list y) x.seen) s.views id drawer (λ j x n e. h.2 j x e) (h.2 id v at));
     one = t.one;
-    away = λ e. let a = t.away e in
-        let apart : a.0 ≢ id = λ q. true_false (sym a.1.2 ∙ ap (λ (z : View E B). z.read) (some_one a.1.0 v (sym a.1.1 ∙ ap (get_elem? s.views) q ∙ at)) ∙ read) in
-        (a.0, (a.1.0, set_else s.views id a.0 drawer apart ∙ a.1.1, a.1.2));
+    away = λ e. some_set (λ (z : View E B). z.read ≡ true) s.views id v drawer at (λ r. r) (t.away e);
+    full = some_set (HasSeen t.entries) s.views id v drawer at (λ h. record { share = h.share; all = h.all }) t.full;
     taken = each_set (λ j (x : View E B). x.read ≡ true → s.homes ≡ none ∷ []) s.views id drawer (λ j x n e. t.taken j x e) (λ q. absurd (true_false (sym q ∙ read)));
     places = λ x. (let e = sum_set (λ (z : View E B). times x z.places) s.views id v drawer at in let p = t.places x in omega arith);
   }

@@ -35,6 +35,7 @@ module _ {E T B : Type 0} (list : T → List E) (base : T → B) where
     home = λ z h. subst (λ z. (length (list z) ≡ n) × (base z ≡ base y) × ((j : ℕ) (x : View E B) → get_elem? (first_view (list y) (base y) ∷ []) j ≡ some x → StartsWith (list z) x.seen)) (home_one y z h)
         (sym e, refl, only_first (λ (x : View E B). StartsWith (list y) x.seen) (first_view (list y) (base y)) (starts_here (list y)));
     one = (some y, refl);
+    full = (0, (first_view (list y) (base y), refl, record { share = omega arith; all = sym e }));
     away = λ q. absurd (some_none y q);
     taken = λ j x ex r. absurd (only_first (λ (x : View E B). x.read ≡ true → ⊥) (first_view (list y) (base y)) (λ q. true_false (sym q)) j x ex r);
     places = λ x. omega arith;

@@ -1,18 +1,18 @@
 -- A seat that is split keeps the rule.
-use Rattle.std.proofs.Common.{◌≡◌, ◌≢◌, ℕ, ◌+◌, ◌≤◌, true, false, List, [], ◌∷◌, ◌++◌, set, sym, ◌∙◌, ap, arith}
+use Rattle.std.proofs.Common.{◌≡◌, ℕ, ◌+◌, ◌≤◌, true, false, List, [], ◌∷◌, ◌++◌, set, sym, ◌∙◌, arith}
 use Rattle.std.specs.Prelude.{sum_by, None}
 use mathlib.Core.Option.{some, none}
 use lib.ListN.{get_elem?}
 use Rattle.std.proofs.lemmas.List.Sums.{sum_by_push}
 use Rattle.atomic_table.specs.Table.{State}
-use Rattle.atomic_table.proofs.Lists.{at_longer, set_else}
+use Rattle.atomic_table.proofs.Lists.{at_longer}
 use Rattle.store_turn.specs.declared.rule.View.{View}
 use Rattle.store_turn.specs.Lists.{StartsWith}
 use Rattle.store_turn.specs.Places.{times}
 use Rattle.store_turn.specs.Steps.{half, other_half}
-use Rattle.store_turn.specs.Tickets.{has_ticket, has_that, ViewOk, InTurn}
-use Rattle.store_turn.proofs.Lists.{some_one, true_false, starts_none}
-use Rattle.store_turn.proofs.Sums.{sum_set, each_split}
+use Rattle.store_turn.specs.Tickets.{has_ticket, has_that, ViewOk, InTurn, SomeSeat, HasSeen}
+use Rattle.store_turn.proofs.Lists.{true_false, starts_none}
+use Rattle.store_turn.proofs.Sums.{sum_set, each_split, some_set}
 use Rattle.store_turn.proofs.Tickets.{no_ticket}
 
 module _ {E T B : Type 0} (list : T → List E) (base : T → B) (fixed : B) (s : State T (View E B)) (t : InTurn list base fixed s) (id : ℕ) (v : View E B) (at : get_elem? s.views id ≡ some v)
@@ -31,6 +31,10 @@ module _ {E T B : Type 0} (list : T → List E) (base : T → B) (fixed : B) (s 
       record { part = (let k = no_ticket v ticket in omega arith); served = ok.served; read = ok.read; short = ok.short; based = λ _. ok.based (omega arith); left = ok.left; right = ok.right; placed = ok.placed }
       (λ j. record { part = omega arith; served = λ e. absurd (true_false (sym e)); read = λ e. absurd (true_false (sym e)); short = ok.short; based = λ _. ok.based (omega arith); left = starts_none v.seen; right = starts_none v.seen; placed = record { rises = tt; low = λ x e. absurd (omega arith) } })
 
+  some_longer : {P : View E B → Type 0} → SomeSeat P (set s.views id (half v)) → SomeSeat P after
+  unfolding after
+  some_longer one = (one.0, (one.1.0, at_longer (set s.views id (half v)) (other_half v ∷ []) one.0 one.1.0 one.1.1, one.1.2))
+
   pub split_keeps : InTurn list base fixed record { words = s.words; homes = s.homes; views = set s.views id (half v) ++ other_half v ∷ [] }
   unfolding after
   split_keeps = record {
@@ -48,9 +52,8 @@ module _ {E T B : Type 0} (list : T → List E) (base : T → B) (fixed : B) (s 
         each_split (λ k z. StartsWith y.seen z.seen) s.views id (half v) (other_half v) (λ k z e. t.under j y reader r k z e) (t.under j y reader r id v at) (λ k. t.under j y reader r id v at) i x ex;
     home = λ y e. let h = t.home y e in (h.0, h.1, each_split (λ j x. StartsWith (list y) x.seen) s.views id (half v) (other_half v) h.2 (h.2 id v at) (λ j. h.2 id v at));
     one = t.one;
-    away = λ e. let a = t.away e in
-        let apart : a.0 ≢ id = λ q. true_false (sym a.1.2 ∙ ap (λ (z : View E B). z.read) (some_one a.1.0 v (sym a.1.1 ∙ ap (get_elem? s.views) q ∙ at)) ∙ read) in
-        (a.0, (a.1.0, at_longer (set s.views id (half v)) (other_half v ∷ []) a.0 a.1.0 (set_else s.views id a.0 (half v) apart ∙ a.1.1), a.1.2));
+    away = λ e. some_longer (some_set (λ (z : View E B). z.read ≡ true) s.views id v (half v) at (λ r. r) (t.away e));
+    full = some_longer (some_set (HasSeen t.entries) s.views id v (half v) at (λ h. record { share = omega arith; all = h.all }) t.full);
     taken = each_split (λ j (x : View E B). x.read ≡ true → s.homes ≡ none ∷ []) s.views id (half v) (other_half v) (λ j x e. t.taken j x e) (λ q. absurd (true_false (sym q ∙ read))) (λ j q. absurd (true_false (sym q)));
     places = λ x. (let e = same_sum (λ (z : View E B). times x z.places) (omega arith) in let p = t.places x in omega arith);
   }

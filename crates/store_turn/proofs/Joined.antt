@@ -1,7 +1,9 @@
 -- Two seats that are joined keep the rule.
-use Rattle.std.proofs.Common.{◌≡◌, ◌≢◌, ℕ, ◌+◌, ◌≤◌, Bool, true, false, cond, List, [], length, set, refl, sym, ◌∙◌, ap, arith}
+use Rattle.std.proofs.Common.{◌≡◌, ◌≢◌, ℕ, ◌+◌, ◌≤◌, Bool, true, false, cond, List, [], length, set, refl, sym, ◌∙◌, ap, arith, subst}
 use Rattle.std.specs.Prelude.{sum_by, None, nat_lt}
 use mathlib.Core.Option.{some}
+use mathlib.Core.Logic.{dite}
+use native.Mathlib.Decide.{ℕ_discrete}
 use lib.ListN.{get_elem?}
 use Rattle.atomic_table.specs.Table.{State}
 use Rattle.atomic_table.proofs.Lists.{set_else}
@@ -9,10 +11,10 @@ use Rattle.store_turn.specs.declared.rule.View.{View}
 use Rattle.store_turn.specs.Lists.{StartsWith, longer}
 use Rattle.store_turn.specs.Places.{times}
 use Rattle.store_turn.specs.Steps.{joined, spent}
-use Rattle.store_turn.specs.Tickets.{has_ticket, has_that, ViewOk, InTurn, BeginsWithAll}
+use Rattle.store_turn.specs.Tickets.{has_ticket, has_that, ViewOk, InTurn, BeginsWithAll, SomeSeat, HasSeen}
 use Rattle.store_turn.proofs.Lists.{some_one, true_false, starts_none, starts_length, longer_starts}
 use Rattle.store_turn.proofs.Places.{rising_merged, below_merged, times_merged}
-use Rattle.store_turn.proofs.Sums.{sum_set, sum_two, each_set}
+use Rattle.store_turn.proofs.Sums.{sum_set, sum_two, each_set, set_there}
 use Rattle.store_turn.proofs.Tickets.{no_ticket, no_that, within_one, common}
 
 longer_is : {E : Type 0} (P : List E → Type 0) (xs ys : List E) (b : Bool) → P xs → P ys → P (cond b ys xs)
@@ -79,6 +81,26 @@ module _ {E T B : Type 0} (list : T → List E) (base : T → B) (fixed : B) (s 
       let b : j ≢ id = λ q. true_false (sym r ∙ ap (λ (z : View E B). z.read) (some_one x v (sym e ∙ ap (get_elem? s.views) q ∙ at)) ∙ read) in
       set_else (set s.views id (joined v u)) other j spent a ∙ set_else s.views id j (joined v u) b ∙ e
 
+  -- if one of the two had seen all entries, the joined seat has
+  still_full : SomeSeat (HasSeen t.entries) (set (set s.views id (joined v u)) other spent)
+  still_full =
+      let a = t.full in
+      let joined_there = set_else (set s.views id (joined v u)) other id spent (λ e. apart (sym e)) ∙ set_there s.views id v (joined v u) at in
+      let ok = joined_ok in
+      let from_u = starts_length (longer v.seen u.seen) u.seen ok.right in
+      let from_v = starts_length (longer v.seen u.seen) v.seen ok.left in
+      let short = ok.short in
+      dite (ℕ_discrete a.0 other)
+      (λ same.
+      let all : length u.seen ≡ t.entries = subst (λ (z : View E B). length z.seen ≡ t.entries) (some_one a.1.0 u (sym a.1.1 ∙ ap (get_elem? s.views) same ∙ there)) a.1.2.all in
+      (id, (joined v u, joined_there, record { share = omega arith; all = omega arith })))
+      (λ other_one.
+      dite (ℕ_discrete a.0 id)
+      (λ same.
+      let all : length v.seen ≡ t.entries = subst (λ (z : View E B). length z.seen ≡ t.entries) (some_one a.1.0 v (sym a.1.1 ∙ ap (get_elem? s.views) same ∙ at)) a.1.2.all in
+      (id, (joined v u, joined_there, record { share = omega arith; all = omega arith })))
+      (λ third. (a.0, (a.1.0, set_else (set s.views id (joined v u)) other a.0 spent other_one ∙ set_else s.views id a.0 (joined v u) third ∙ a.1.1, a.1.2))))
+
   pub join_keeps : InTurn list base fixed record { words = s.words; homes = s.homes; views = set (set s.views id (joined v u)) other spent }
   join_keeps = record {
     entries = t.entries;
@@ -93,6 +115,7 @@ module _ {E T B : Type 0} (list : T → List E) (base : T → B) (fixed : B) (s 
     under = λ j y ey r i x ex. let reader = old_reader j y ey r in each_starts y.seen (λ k z e. t.under j y reader r k z e) i x ex;
     home = λ y e. let h = t.home y e in (h.0, h.1, each_starts (list y) h.2);
     one = t.one;
+    full = still_full;
     away = λ e. let a = t.away e in (a.0, (a.1.0, still_read a.0 a.1.0 a.1.1 a.1.2, a.1.2));
     taken = λ j x e q. t.taken j x (old_reader j x e q) q;
     places = λ x. (let e = same_sum (λ (z : View E B). times x z.places) (times_merged x v.places u.places) refl in let p = t.places x in omega arith);

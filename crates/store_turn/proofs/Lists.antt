@@ -65,3 +65,11 @@ longer_starts l xs ys p q = longer_by l xs ys p q (nat_lt (length xs) (length ys
 
 pub starts_on : {E : Type 0} (xs ys zs : List E) → StartsWith ys xs → StartsWith zs ys → StartsWith zs xs
 starts_on xs ys zs a b = record { rest = a.rest ++ b.rest; goes_on = b.goes_on ∙ ap (λ l. l ++ b.rest) a.goes_on ∙ append_assoc xs a.rest b.rest }
+
+no_rest : {E : Type 0} (xs more : List E) → length (xs ++ more) ≤ length xs → xs ++ more ≡ xs
+no_rest xs [] h = append-nil xs
+no_rest xs (x ∷ more) h = absurd (omega (arith, length-append xs (x ∷ more)))
+
+-- a list that goes on from another and is no longer is the same
+pub same_list : {E : Type 0} (xs ys : List E) → StartsWith ys xs → length ys ≤ length xs → ys ≡ xs
+same_list xs ys s h = s.goes_on ∙ no_rest xs s.rest (let e : length ys ≡ length (xs ++ s.rest) = ap length s.goes_on in omega arith)

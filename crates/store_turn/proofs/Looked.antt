@@ -1,19 +1,19 @@
 -- A seat that looks whether it is served keeps the rule.
-use Rattle.std.proofs.Common.{◌≡◌, ◌≢◌, ℕ, ◌%◌, ◌^◌, true, false, List, [], ◌∷◌, set, refl, sym, ◌∙◌, ap, arith, subst, inl, inr}
+use Rattle.std.proofs.Common.{◌≡◌, ℕ, ◌%◌, ◌^◌, true, false, List, [], ◌∷◌, set, refl, sym, ◌∙◌, ap, arith, subst, inl, inr}
 use Rattle.std.specs.Prelude.{sum_by, Some, slice_index}
 use mathlib.Core.Option.{some, none}
 use mathlib.Core.Logic.{dite}
 use native.Mathlib.Decide.{ℕ_discrete}
 use lib.ListN.{get_elem?}
 use Rattle.atomic_table.specs.Table.{State, keeps, step, Allows}
-use Rattle.atomic_table.proofs.Lists.{set_else, set_again}
+use Rattle.atomic_table.proofs.Lists.{set_again}
 use Rattle.store_turn.specs.declared.rule.View.{View}
 use Rattle.store_turn.specs.Lists.{StartsWith}
 use Rattle.store_turn.specs.Places.{times}
 use Rattle.store_turn.specs.Steps.{looked, at_turn}
-use Rattle.store_turn.specs.Tickets.{has_ticket, has_that, ViewOk, InTurn}
-use Rattle.store_turn.proofs.Lists.{some_one, Some_one, true_false}
-use Rattle.store_turn.proofs.Sums.{sum_set, each_set}
+use Rattle.store_turn.specs.Tickets.{has_ticket, has_that, ViewOk, InTurn, HasSeen}
+use Rattle.store_turn.proofs.Lists.{Some_one, true_false}
+use Rattle.store_turn.proofs.Sums.{sum_set, each_set, some_set}
 use Rattle.store_turn.proofs.Tickets.{next_is}
 
 module _ {E T B : Type 0} (list : T → List E) (base : T → B) (fixed : B) (s : State T (View E B)) (t : InTurn list base fixed s) (id : ℕ) (v : View E B) (at : get_elem? s.views id ≡ some v)
@@ -47,9 +47,8 @@ module _ {E T B : Type 0} (list : T → List E) (base : T → B) (fixed : B) (s 
         each_set (λ k z. StartsWith y.seen z.seen) s.views id looker (λ k z n e. t.under j y reader r k z e) (t.under j y reader r id v at) i x ex;
     home = λ y e. let h = t.home y e in (h.0, h.1, each_set (λ j x. StartsWith (list y) x.seen) s.views id looker (λ j x n e. h.2 j x e) (h.2 id v at));
     one = t.one;
-    away = λ e. let a = t.away e in
-        let apart : a.0 ≢ id = λ q. true_false (sym a.1.2 ∙ ap (λ (z : View E B). z.read) (some_one a.1.0 v (sym a.1.1 ∙ ap (get_elem? s.views) q ∙ at)) ∙ read) in
-        (a.0, (a.1.0, set_else s.views id a.0 looker apart ∙ a.1.1, a.1.2));
+    away = λ e. some_set (λ (z : View E B). z.read ≡ true) s.views id v looker at (λ r. r) (t.away e);
+    full = some_set (HasSeen t.entries) s.views id v looker at (λ h. record { share = h.share; all = h.all }) t.full;
     taken = each_set (λ j (x : View E B). x.read ≡ true → s.homes ≡ none ∷ []) s.views id looker (λ j x n e. t.taken j x e) (λ q. absurd (true_false (sym q ∙ read)));
     places = λ x. (let e = same_sum (λ (z : View E B). times x z.places) refl in let p = t.places x in omega arith);
   }

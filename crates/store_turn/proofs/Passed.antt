@@ -8,9 +8,9 @@ use Rattle.store_turn.specs.declared.rule.View.{View}
 use Rattle.store_turn.specs.Lists.{StartsWith}
 use Rattle.store_turn.specs.Places.{times, within}
 use Rattle.store_turn.specs.Steps.{passed, at_rest}
-use Rattle.store_turn.specs.Tickets.{has_ticket, has_that, ViewOk, InTurn}
+use Rattle.store_turn.specs.Tickets.{has_ticket, has_that, ViewOk, InTurn, HasSeen}
 use Rattle.store_turn.proofs.Lists.{Some_one, true_false, some_none, home_one, starts_here}
-use Rattle.store_turn.proofs.Sums.{sum_set, each_set}
+use Rattle.store_turn.proofs.Sums.{sum_set, each_set, some_set}
 use Rattle.store_turn.proofs.Tickets.{alone, alone_read, within_less, within_to, out_now, a_ticket, that_ticket}
 use Rattle.store_turn.proofs.Drew.{up_mod}
 
@@ -73,6 +73,7 @@ module _ {E T B : Type 0} (list : T → List E) (base : T → B) (fixed : B) (s 
     under = λ j z ez r i x ex. absurd (none_reads j z ez r);
     home = keeps_home;
     one = (some y, refl);
+    full = some_set (HasSeen t.entries) s.views id v (at_rest v) at (λ h. record { share = h.share; all = h.all }) t.full;
     away = λ e. absurd (some_none y e);
     taken = λ j x e q. absurd (none_reads j x e q);
     places = λ x. (let e = same_sum (λ (z : View E B). times x z.places) refl in let p = t.places x in omega arith);

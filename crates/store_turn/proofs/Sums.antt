@@ -1,10 +1,13 @@
 -- Sums over all views, and which views there are after a step.
-use Rattle.std.proofs.Common.{◌≡◌, ◌≢◌, ℕ, ◌+◌, ◌≤◌, List, [], ◌∷◌, ◌++◌, set, refl, sym, ap, arith, subst, inl, inr, suc, zero}
+use Rattle.std.proofs.Common.{◌≡◌, ◌≢◌, ℕ, ◌+◌, ◌≤◌, List, [], ◌∷◌, ◌++◌, set, refl, sym, ◌∙◌, ap, arith, subst, inl, inr, suc, zero}
 use Rattle.std.specs.Prelude.{sum_by}
 use Rattle.std.proofs.lemmas.List.Sums.{sum_by-cons}
 use mathlib.Core.Option.{some}
 use lib.ListN.{get_elem?}
-use Rattle.atomic_table.proofs.Lists.{at_set, at_snoc}
+use mathlib.Core.Logic.{dite}
+use native.Mathlib.Decide.{ℕ_discrete}
+use Rattle.atomic_table.proofs.Lists.{at_set, at_snoc, set_else}
+use Rattle.store_turn.specs.Tickets.{SomeSeat}
 
 some_one : {A : Type 0} (x y : A) → some x ≡ some y → x ≡ y
 some_one x y e = cc
@@ -63,3 +66,9 @@ module _ {A : Type 0} where
   set_there [] i v w e = cc
   set_there (x ∷ xs) zero v w e = refl
   set_there (x ∷ xs) (suc i) v w e = set_there xs i v w e
+
+  -- what some view has, it has still after it, or another, has changed
+  pub some_set : (P : A → Type 0) (xs : List A) (i : ℕ) (v w : A) → get_elem? xs i ≡ some v → (P v → P w) → SomeSeat P xs → SomeSeat P (set xs i w)
+  some_set P xs i v w at still one = dite (ℕ_discrete one.0 i)
+      (λ same. (i, (w, set_there xs i v w at, still (subst P (some_one one.1.0 v (sym one.1.1 ∙ ap (get_elem? xs) same ∙ at)) one.1.2))))
+      (λ apart. (one.0, (one.1.0, set_else xs i one.0 w apart ∙ one.1.1, one.1.2)))

@@ -1,7 +1,6 @@
 -- The steps of a turn, one after another.
 use Rattle.std.proofs.Common.{◌≡◌, ℕ, ◌+◌, ◌≤◌, Bool, true, false, cond, List, [], ◌∷◌, ◌++◌, length, refl, sym, ◌∙◌, ap, ap₂, arith, subst}
 use Rattle.std.specs.Prelude.{Some, nat_lt}
-use Rattle.std.proofs.lemmas.List.{append-nil, length-append}
 use Rattle.atomic_table.specs.Seated.{TableId}
 use Rattle.atomic_table.specs.Table.{Me}
 use Rattle.store_turn.specs.declared.rule.View.{View}
@@ -10,18 +9,11 @@ use Rattle.store_turn.specs.Lists.{StartsWith}
 use Rattle.store_turn.specs.Places.{PlacesIn, places_after}
 use Rattle.store_turn.specs.Seats.{AsSeat, Took}
 use Rattle.store_turn.specs.Steps.{at_rest}
-use Rattle.store_turn.proofs.Lists.{not_more, is_more, starts_length}
+use Rattle.store_turn.proofs.Lists.{same_list, not_more, is_more, starts_length}
 use Rattle.store_turn.proofs.Places.{rising_snoc, below_snoc}
 
 pub held_one : {A : Type 0} (x y : A) (xs ys : List (ℕ × A)) → (0, x) ∷ xs ≡ (0, y) ∷ ys → x ≡ y
 held_one {A} x y xs ys e = ap (λ (l : List (ℕ × A)). elim l [ [] ↦ x | h ∷ t ↦ h.1 ]) e
-
-no_rest : {E : Type 0} (xs more : List E) → length (xs ++ more) ≤ length xs → xs ++ more ≡ xs
-no_rest xs [] h = append-nil xs
-no_rest xs (x ∷ more) h = absurd (omega (arith, length-append xs (x ∷ more)))
-
-same_list : {E : Type 0} (xs ys : List E) → StartsWith ys xs → length ys ≤ length xs → ys ≡ xs
-same_list xs ys s h = s.goes_on ∙ no_rest xs s.rest (let e : length ys ≡ length (xs ++ s.rest) = ap length s.goes_on in omega arith)
 
 module _ {E B T : Type 0} (list : T → List E) (base : T → B) (v : View E B) (waited found : Me T (View E B)) (served : Served v waited)
     (read : TookOut list base waited found) where

@@ -9,7 +9,17 @@ use Rattle.store_turn.specs.Tickets.{whole_share}
 module _ {E B : Type 0} where
   -- a seat that is at rest and has no places
   abbrev pub fresh : List E → Option B → ℕ → View E B
-  fresh xs b share = record { seen = xs; base = b; left = []; right = []; places = []; share = share; ticket = None; served = false; read = false }
+  fresh xs b share = record {
+    seen = xs;
+    base = b;
+    left = [];
+    right = [];
+    places = [];
+    share = share;
+    ticket = None;
+    served = false;
+    read = false;
+  }
 
   abbrev pub first_view : List E → B → View E B
   first_view xs b = fresh xs (Some b) whole_share
@@ -21,7 +31,13 @@ module _ {E B : Type 0} where
   other_half v = fresh v.seen v.base 1
 
   abbrev pub joined : View E B → View E B → View E B
-  joined v w = record v { seen = longer v.seen w.seen; left = v.seen; right = w.seen; places = merged v.places w.places; share = v.share + w.share }
+  joined v w = record v {
+    seen = longer v.seen w.seen;
+    left = v.seen;
+    right = w.seen;
+    places = merged v.places w.places;
+    share = v.share + w.share;
+  }
 
   -- what is left of a seat that was joined to another
   abbrev pub spent : View E B
@@ -50,15 +66,19 @@ module _ {E B : Type 0} where
 
     -- look: where the number found is one's own, it is served
     abbrev pub looked : Step T → Me T (View E B) → ℕ → Me T (View E B) → Type 0
-    looked s me found now = (k : ℕ) → me.0.ticket ≡ Some k → ((found ≡ k % 2 ^ 64) × (now ≡ (at_turn me.0, me.1))) ⊎ ((found ≢ k % 2 ^ 64) × (now ≡ me))
+    looked s me found now = (k : ℕ) → me.0.ticket ≡ Some k →
+        ((found ≡ k % 2 ^ 64) × (now ≡ (at_turn me.0, me.1))) ⊎ ((found ≢ k % 2 ^ 64) × (now ≡ me))
 
     -- read: the value is taken out, and its list is seen, which begins with what was seen
     abbrev pub did_read : (T → List E) → (T → B) → Step T → Me T (View E B) → ℕ → Me T (View E B) → Type 0
-    did_read list base s me found now = (y : T) × StartsWith (list y) me.0.seen × (me.0.base ≡ Some (base y)) × (now ≡ (reading me.0 (list y), (0, y) ∷ me.1))
+    did_read list base s me found now =
+        (y : T) × StartsWith (list y) me.0.seen × (me.0.base ≡ Some (base y))
+        × (now ≡ (reading me.0 (list y), (0, y) ∷ me.1))
 
     -- commit: the list of the value that is out is seen, and its last entry is one's own
     abbrev pub committed : (T → List E) → Step T → Me T (View E B) → ℕ → Me T (View E B) → Type 0
-    committed list s me found now = (y : T) × (me.1 ≡ (0, y) ∷ []) × (now ≡ (added me.0 (list y), me.1))
+    committed list s me found now =
+        (y : T) × (me.1 ≡ (0, y) ∷ []) × (now ≡ (added me.0 (list y), me.1))
 
     -- pass: the value is given back, and the ticket ends
     abbrev pub passed : Step T → Me T (View E B) → ℕ → Me T (View E B) → Type 0
@@ -66,4 +86,6 @@ module _ {E B : Type 0} where
 
     -- recall: what was seen begins with what both seats had seen that were joined
     abbrev pub recalled : Step T → Me T (View E B) → ℕ → Me T (View E B) → Type 0
-    recalled s me found now = (now ≡ me) × StartsWith me.0.seen me.0.left × StartsWith me.0.seen me.0.right × PlacesIn (length me.0.seen) me.0.places
+    recalled s me found now =
+        (now ≡ me) × StartsWith me.0.seen me.0.left × StartsWith me.0.seen me.0.right
+        × PlacesIn (length me.0.seen) me.0.places

@@ -76,7 +76,7 @@ impl<T: Grows> TurnTable<T> {
         requires of { seat.table_id ≡ self.table.shared.table_id }
         requires whole { seat.me.0.share ≡ whole_share }
         requires rests { Rests seat.me }
-        ensures seen { StartsWith (T.list result) seat.me.0.seen }
+        ensures seen { T.list result ≡ seat.me.0.seen }
         ensures base { seat.me.0.base ≡ Some (T.base result) }
     {
         let TurnTable { table } = self;

@@ -111,11 +111,11 @@ impl<T: Grows> Turn<T> {
         self.table.with_turn(rt, &mut seat.seat, job)
     }
 
-    /// Gives the value back. Since the seat has the whole share, there is no other.
+    /// Gives the value back. Since the seat has the whole share, no other has one, and it has seen all entries.
     pub fn close(self, seat: Seat<T>) -> T
         requires of { seat.turn ≡ self.name }
         requires whole { seat.share ≡ whole_share }
-        ensures seen { StartsWith (T.list result) seat.seen }
+        ensures seen { T.list result ≡ seat.seen }
         ensures base { seat.base ≡ Some (T.base result) }
         ensures placed { PlacesIn (length seat.seen) seat.places }
     {

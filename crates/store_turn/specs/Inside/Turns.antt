@@ -50,7 +50,9 @@ module _ {E B T : Type 0} where
       pub kept : me.0.base ≡ Some (base value)
 
     -- a job changed the value that is out, and said whether it has an entry more
-    pub record Did {R : Type 0} (gives : T → R → T → Type 0) (was : Me T (View E B)) (r : R) (more : Bool) (me : Me T (View E B)) : Type 0 where
+    pub record Did
+        {R : Type 0} (gives : T → R → T → Type 0) (was : Me T (View E B)) (r : R) (more : Bool) (me : Me T (View E B))
+        : Type 0 where
       pub before : T
       pub after : T
       pub had : was.1 ≡ (0, before) ∷ []
