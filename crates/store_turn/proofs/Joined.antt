@@ -25,12 +25,6 @@ module _ {E T B : Type 0} (list : T → List E) (base : T → B) (fixed : B) (s 
     (other : ℕ) (u : View E B) (apart : other ≢ id) (there : get_elem? s.views other ≡ some u)
     (ticket : v.ticket ≡ None) (served : v.served ≡ false) (read : v.read ≡ false) (share : 1 ≤ v.share)
     (ticket_u : u.ticket ≡ None) (read_u : u.read ≡ false) where
-  between : List (View E B)
-  between = set s.views id (joined v u)
-
-  after : List (View E B)
-  after = set (set s.views id (joined v u)) other spent
-
   still : get_elem? (set s.views id (joined v u)) other ≡ some u
   still = set_else s.views id other (joined v u) apart ∙ there
 
