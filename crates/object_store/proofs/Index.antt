@@ -10,7 +10,7 @@ use Rattle.object_store.specs.declared.line.Made.{Made}
 use Rattle.object_store.specs.declared.line.Line.{Line}
 use Rattle.object_store.specs.Inside.Lines.{made_in, made_of, line_at, firsts}
 use Rattle.object_store.specs.Inside.Changes.{Appends, Inserts}
-use Rattle.object_store.proofs.KeyTests.{key_eq, key_eq-same}
+use Rattle.object_store.proofs.KeyTests.{key_eq, key_eq-same, lookup-key_eq}
 
 -- no key is both
 pub apart : (j k l : Key) → same_key k l ≡ false → same_key j l ≡ true → same_key j k ≡ true → ⊥
@@ -20,12 +20,6 @@ apart j k l n a b =
     cc
 
 module _ {C : Type 0} where
-  pub lookup-key_eq : (k : Key) (es : List (Key × Line C)) → lookup (key_eq k) es ≡ lookup (same_key k) es
-  lookup-key_eq k [] = refl
-  lookup-key_eq k (e ∷ es) =
-      ap (λ b. cond b (Some e.1) (lookup (key_eq k) es)) (key_eq-same k e.0)
-      ∙ ap (cond (same_key k e.0) (Some e.1)) (lookup-key_eq k es)
-
   pub set_value-key_eq : (k : Key) (es : List (Key × Line C)) (l : Line C) → set_value (key_eq k) es l ≡ set_value (same_key k) es l
   set_value-key_eq k [] l = refl
   set_value-key_eq k (e ∷ es) l =

@@ -1,5 +1,6 @@
 -- The index tells keys apart as histories do.
-use Rattle.std.proofs.Common.{◌≡◌, Bool, refl}
+use Rattle.std.proofs.Common.{◌≡◌, Bool, List, [], ◌∷◌, cond, Some, refl, ap, ◌∙◌}
+use Rattle.std.specs.Map.{lookup}
 use Rattle.tree_types.specs.declared.entry.Key.{Key}
 use Rattle.tree_types.specs.declared.entry.Key.TheVariants.{Workflow, Pod, Locks, Caches}
 use Rattle.tree_types.specs.contracts.entry.KeyPartialEq.TheImpl.{eq-value}
@@ -25,3 +26,9 @@ key_eq-same Locks Caches = refl
 key_eq-same Caches (Workflow b) = refl
 key_eq-same Caches (Pod b m) = refl
 key_eq-same Caches Locks = refl
+
+pub lookup-key_eq : {V : Type 0} (k : Key) (es : List (Key × V)) → lookup (key_eq k) es ≡ lookup (same_key k) es
+lookup-key_eq k [] = refl
+lookup-key_eq k (e ∷ es) =
+    ap (λ b. cond b (Some e.1) (lookup (key_eq k) es)) (key_eq-same k e.0)
+    ∙ ap (cond (same_key k e.0) (Some e.1)) (lookup-key_eq k es)

@@ -1,6 +1,6 @@
 //! The objects of a store with all their versions, and the entries that made them.
 
-ghost use Rattle.std.specs.Prelude.{◌≡◌, ◌≢◌, ◌<◌, ◌≤◌, [], ◌∷◌, ◌++◌, None, Some, Err, Ok, MatchOption, OnOk, OnErr, IfOk, map};
+ghost use Rattle.std.specs.Prelude.{◌≡◌, ◌≢◌, ◌<◌, ◌≤◌, [], ◌∷◌, ◌++◌, None, Some, Err, Ok, MatchOption, OnOk, OnErr, IfOk, length, map};
 ghost use Rattle.tree_types.specs.declared.entry.Entry.TheVariants.{Tick};
 ghost use Rattle.history.specs.History.{event, grown, clock_of, version_at, map_content};
 ghost use Rattle.object_store.specs.declared.refused.StoreRefused.TheVariants.{Fault};
@@ -304,6 +304,12 @@ impl<C: Content> Ledger<C> {
         ensures { result.now ≡ map (λ e. e.entry) self.now.events }
     {
         &self.entries
+    }
+
+    pub(crate) fn len(&self) -> usize
+        ensures { result ≡ length self.now.events }
+    {
+        self.entries.len()
     }
 
     pub(crate) fn into_entries(self) -> Entries

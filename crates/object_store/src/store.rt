@@ -1,6 +1,6 @@
 //! The store: its calls may fail by an outage, and are told by what they answer.
 
-ghost use Rattle.std.specs.Prelude.{◌≡◌, [], None, Some, MatchOption, MatchResult, IfOk, map};
+ghost use Rattle.std.specs.Prelude.{◌≡◌, [], None, Some, MatchOption, MatchResult, IfOk, length, map};
 ghost use Rattle.tree_types.specs.declared.entry.Entry.TheVariants.{Tick};
 ghost use Rattle.history.specs.History.{event, clock_of, version_at, map_content};
 ghost use Rattle.object_store.specs.declared.refused.StoreRefused.TheVariants.{Fault};
@@ -153,6 +153,13 @@ impl<C: Content, O: Outage> Store<C, O> {
         ensures { result.now ≡ map (λ e. e.entry) self.now.history.events }
     {
         self.ledger.entries()
+    }
+
+    /// How many entries were accepted.
+    pub fn len(&self) -> usize
+        ensures { result ≡ length self.now.history.events }
+    {
+        self.ledger.len()
     }
 
     /// The content of a key's object, as it is.

@@ -2,8 +2,8 @@ use Rattle.std.proofs.Common.{sym, ◌∙◌, subst}
 use Rattle.indexmap.proofs.CallerLemmas.{insert_entry-new}
 use Rattle.object_store.specs.declared.line.Line.{Line}
 use Rattle.object_store.specs.Inside.Changes.{Inserts}
-use Rattle.object_store.proofs.Index.{inserted, lookup-key_eq, none_of}
-use Rattle.object_store.proofs.KeyTests.{key_eq}
+use Rattle.object_store.proofs.Index.{inserted, none_of}
+use Rattle.object_store.proofs.KeyTests.{key_eq, lookup-key_eq}
 use Rattle.object_store.proofs.ledger.insert.Goals as goal
 
 pub returns : goal.returns

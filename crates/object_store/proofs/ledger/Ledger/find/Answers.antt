@@ -4,7 +4,7 @@ use Rattle.object_store.specs.Versions.{versions}
 use Rattle.object_store.specs.declared.line.Made.{Made}
 use Rattle.object_store.specs.declared.line.Line.{Line}
 use Rattle.object_store.specs.Inside.Lines.{made_in, made_of}
-use Rattle.object_store.proofs.Index.{lookup-key_eq}
+use Rattle.object_store.proofs.KeyTests.{lookup-key_eq}
 use Rattle.object_store.proofs.ledger.Ledger.find.Goals as goal
 
 found : {C : Type 0} (r : Option (Bor (Line C))) (ms : List (Made C)) → ms ≡ made_of (option_copied r) → MatchOption r (ms ≡ []) (λ l. ms ≡ made_in l.now)
