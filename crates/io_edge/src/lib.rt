@@ -5,16 +5,20 @@
 #![tactic(auto)]
 
 mod call_plan;
+mod gate;
 mod memory_sink;
 mod memory_source;
+mod outage;
 mod sink;
 mod source;
 mod standard;
 mod transfer;
 
 pub use call_plan::CallNumbers;
+pub use gate::{Gate, HoldGate, OpenGate};
 pub use memory_sink::MemSink;
 pub use memory_source::MemSource;
+pub use outage::{NoOutage, Outage, PlannedOutage};
 pub use sink::Sink;
 pub use source::{Failed, Source};
 pub use standard::{StdSink, StdSource};

@@ -42,7 +42,7 @@ pub struct Limit {
 pub type Limits = List<Limit>;
 
 /// A change that the store accepted by one call.
-#[derive(Debug, Drop)]
+#[derive(Debug)]
 pub enum Entry {
     /// A workflow was submitted, perhaps from an old one, with these facts carried over.
     Submit {
@@ -92,6 +92,49 @@ pub enum Entry {
     Tick {
         to: u64,
     },
+}
+
+// Written out, so that proofs about code that drops an entry see one call and not a match over its kinds.
+impl Drop for Entry {
+    fn drop(self) {
+        match self {
+            Entry::Submit {
+                workflow: _,
+                old: _,
+                facts: _,
+            } => {}
+            Entry::Write {
+                workflow: _,
+                version: _,
+                facts: _,
+            } => {}
+            Entry::Create {
+                workflow: _,
+                node: _,
+                path: _,
+                begin: _,
+            } => {}
+            Entry::Finish {
+                workflow: _,
+                node: _,
+                outcome: _,
+            } => {}
+            Entry::File {
+                lock: _,
+                key: _,
+                rank: _,
+            } => {}
+            Entry::Release { lock: _, key: _ } => {}
+            Entry::Save {
+                cache: _,
+                key: _,
+                writer: _,
+                outputs: _,
+                tick: _,
+            } => {}
+            Entry::Tick { to: _ } => {}
+        }
+    }
 }
 
 /// A list of entries.

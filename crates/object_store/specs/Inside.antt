@@ -1,0 +1,4 @@
+-- What speaks only of private code.
+pub mod Changes
+pub mod Lines
+pub mod Kept

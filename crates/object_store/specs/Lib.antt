@@ -1,0 +1,13 @@
+pub mod Answers
+pub mod Entries
+pub mod Inside
+pub mod Laws
+pub mod LawfulHistories
+pub mod Stored
+pub mod Versions
+pub use Rattle.history.specs.History
+pub use Rattle.history.specs.Keys
+pub use Rattle.history.specs.Sometime
+pub use Rattle.io_edge.specs.Outages
+pub use Rattle.tree_types.specs.declared.entry.Entry
+pub use Rattle.tree_types.specs.declared.entry.Key

@@ -1,0 +1,18 @@
+use Rattle.std.proofs.Common.{◌≤◌, subst}
+use Rattle.object_store.specs.Answers.{is_fault}
+use Rattle.store_client.proofs.Lawful.{never_falls}
+use Rattle.store_client.proofs.mem_client.MemClientClient.get.Goals as goal
+use Rattle.store_client.proofs.mem_client.MemClientClient.get.Goals.{then-lag-eq0, else-lag-eq0}
+
+pub returns-clause-faults : goal.returns-clause-faults
+returns-clause-faults g c =
+    let faults = g.O.Outage.faults in
+    let store = c.take_lag-lag.ensures.store in
+    elim c.if-lag-eq0.branch [
+      | then-lag-eq0 w ↦
+          let told = w.get-answer.ensures.outage in
+          rw w.self-is (subst (λ s. faults s.outage ≤ faults w.get-answer.new.self.outage) store (never_falls (is_fault w.get-answer.result) _ _ told.rose told.stood))
+      | else-lag-eq0 w ↦
+          let told = w.get_back-answer.ensures.outage in
+          rw w.self-is (subst (λ s. faults s.outage ≤ faults w.get_back-answer.new.self.outage) store (never_falls (is_fault w.get_back-answer.result) _ _ told.rose told.stood))
+    ]

@@ -1,0 +1,15 @@
+pub mod Sums
+pub mod Places
+pub mod Lists
+pub mod Tickets
+pub mod FirstView
+pub mod Halves
+pub mod Joined
+pub mod Drew
+pub mod Looked
+pub mod DidRead
+pub mod Committed
+pub mod Passed
+pub mod Recalled
+pub mod Final
+pub mod Took
