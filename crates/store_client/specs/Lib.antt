@@ -1,5 +1,7 @@
 pub mod Calls
+pub mod Inside
 pub mod Lags
+pub mod Under
 pub mod Viewed
 pub use Rattle.io_edge.specs.Cause
 pub use Rattle.object_store.specs.Answers

@@ -32,8 +32,10 @@ pub trait Client<T: Content> {
     /// A Fault came between these two.
     ghost rose: { Self → Self → Type 0 };
 
-    /// The name of the borrow that it holds.
-    ghost place: { Self → ℕ };
+    /// What its caller is told of where it calls from: the name of the borrow that it holds, and more where it has more.
+    ghost Place: { Type 0 };
+
+    ghost place: { Self → Place };
 
     /// The object of a key, as it is, or as it was where there is a lag.
     fn get(&mut self, key: &Key) -> Result<Snapshot<T>, StoreRefused>

@@ -69,6 +69,8 @@ impl<'a, T: Content, O: Outage> Client<T> for MemClient<'a, T, O> {
 
     ghost rose = { λ old new. O.faults old.store.now.outage < O.faults new.store.now.outage };
 
+    ghost Place = { ℕ };
+
     ghost place = { λ c. c.store.ghost_name };
 
     fn get(&mut self, key: &Key) -> Result<Snapshot<T>, StoreRefused> {
