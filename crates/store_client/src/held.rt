@@ -66,7 +66,8 @@ impl<T: Content, O: Outage> Held<T, O> {
 
     pub fn get(&mut self, key: &Key) -> Result<Snapshot<T>, StoreRefused>
         ensures answer { GetGives key.now
-            (clock_of self.old.store.history) (version_at T.apply self.old.store.history key.now) result }
+            (clock_of self.old.store.history)
+            (version_at T.apply self.old.store.history key.now) result }
         ensures of { IfOk result (λ s. IsOf T.apply s self.new.store.history) }
         ensures same { self.new.store.history ≡ self.old.store.history }
         ensures outage { Asked
@@ -89,9 +90,11 @@ impl<T: Content, O: Outage> Held<T, O> {
         requires justified { WillBeJustified T.begins T.justified self.old.law
             T.apply self.old.store.history key 0 (event change (Some content)) }
         ensures answer { CreateGives key content
-            (clock_of self.old.store.history) (version_at T.apply self.old.store.history key) result }
+            (clock_of self.old.store.history)
+            (version_at T.apply self.old.store.history key) result }
         ensures of { IfOk result (λ s. IsOf T.apply s self.new.store.history) }
-        ensures adds { Adds self.old.store.history (event change (Some content)) result self.new.store.history }
+        ensures adds { Adds self.old.store.history
+            (event change (Some content)) result self.new.store.history }
         ensures outage { Asked
             O.faults O.most O.asked self.old.store.outage self.new.store.outage result }
         ensures row { self.new.store.row ≡ row_after self.old.store.row result }
@@ -113,9 +116,11 @@ impl<T: Content, O: Outage> Held<T, O> {
         requires justified { WillBeJustified T.begins T.justified self.old.law
             T.apply self.old.store.history from.now.key from.now.version (event change None) }
         ensures answer { WriteGives from.now next
-            (clock_of self.old.store.history) (version_at T.apply self.old.store.history from.now.key) result }
+            (clock_of self.old.store.history)
+            (version_at T.apply self.old.store.history from.now.key) result }
         ensures of { IfOk result (λ s. IsOf T.apply s self.new.store.history) }
-        ensures adds { Adds self.old.store.history (event change None) result self.new.store.history }
+        ensures adds { Adds self.old.store.history
+            (event change None) result self.new.store.history }
         ensures outage { Asked
             O.faults O.most O.asked self.old.store.outage self.new.store.outage result }
         ensures row { self.new.store.row ≡ row_after self.old.store.row result }
@@ -126,9 +131,11 @@ impl<T: Content, O: Outage> Held<T, O> {
     }
 
     pub fn tick(&mut self, to: u64) -> Result<(), StoreRefused>
-        requires justified { TickWillBeJustified T.begins T.justified self.old.law self.old.store.history to }
+        requires justified { TickWillBeJustified T.begins T.justified
+            self.old.law self.old.store.history to }
         ensures answer { TickGives to (clock_of self.old.store.history) result }
-        ensures adds { Adds self.old.store.history (event (Tick to) None) result self.new.store.history }
+        ensures adds { Adds self.old.store.history
+            (event (Tick to) None) result self.new.store.history }
         ensures outage { Asked
             O.faults O.most O.asked self.old.store.outage self.new.store.outage result }
         ensures row { self.new.store.row ≡ row_after self.old.store.row result }

@@ -53,7 +53,8 @@ impl<'a, T: Content, O: Outage, G: Gate, R: Wait> TurnClient<'a, T, O, G, R> {
     ) -> Self
         requires of { seat.old.turn ≡ turn.now.name }
         requires law { LawIs seat.old law.now }
-        ensures seat { (result.seat.now ≡ seat.old) × (result.seat.ghost_name ≡ seat.entry.ghost_name) }
+        ensures seat { result.seat.now ≡ seat.old }
+        ensures borrow { result.seat.ghost_name ≡ seat.entry.ghost_name }
         ensures turn { result.turn.now ≡ turn.now }
         ensures law { result.law.now ≡ law.now }
     {

@@ -33,7 +33,8 @@ impl<T: Grows> TurnTable<T> {
     pub(crate) fn new(alloc: Global, value: T) -> Result<(TurnTable<T>, TableSeat<T>), Memory>
         ensures same_table { IfOk result (λ made. made.1.table_id ≡ made.0.table.shared.table_id) }
         ensures rests { IfOk result (λ made. Rests made.1.me) }
-        ensures seen { IfOk result (λ made. made.1.me.0 ≡ first_view (T.list value) (T.base value)) }
+        ensures seen { IfOk result (λ made.
+            made.1.me.0 ≡ first_view (T.list value) (T.base value)) }
     {
         let entries = value.len();
         let key = Snapshot::of(&value);

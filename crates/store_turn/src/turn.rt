@@ -78,7 +78,8 @@ impl<T: Grows> Turn<T> {
         ensures of { seat.new.turn ≡ self.now.name }
         ensures share { seat.new.share ≡ seat.old.share + other.share }
         ensures seen { seat.new.seen ≡ longer seat.old.seen other.seen }
-        ensures begins { StartsWith seat.new.seen seat.old.seen × StartsWith seat.new.seen other.seen }
+        ensures begins { StartsWith seat.new.seen seat.old.seen
+            × StartsWith seat.new.seen other.seen }
         ensures base { seat.new.base ≡ seat.old.base }
         ensures places { seat.new.places ≡ merged seat.old.places other.places }
         ensures placed { PlacesIn (length seat.new.seen) seat.new.places }
@@ -105,7 +106,8 @@ impl<T: Grows> Turn<T> {
         ensures of { seat.new.turn ≡ self.now.name }
         ensures share { seat.new.share ≡ seat.old.share }
         ensures base { seat.new.base ≡ seat.old.base }
-        ensures took { Took T.list T.base (FnOnceReturnsAtMut F.FnOnce job) seat.old result seat.new }
+        ensures took { Took T.list T.base (FnOnceReturnsAtMut F.FnOnce job)
+            seat.old result seat.new }
         ensures placed { PlacesIn (length seat.new.seen) seat.new.places }
     {
         self.table.with_turn(rt, &mut seat.seat, job)
