@@ -19,7 +19,8 @@ pub fn count_once<C: Client<Counter>>(
     key: &Key,
 ) -> Result<u64, StoreRefused>
     requires { C.law client.old ≡ limit.now }
-    ensures lawful { StaysLawful begins justified limit.now (C.seen client.old) (C.seen client.new) }
+    ensures lawful { StaysLawful
+        begins justified limit.now (C.seen client.old) (C.seen client.new) }
     ensures law { C.law client.new ≡ limit.now }
 {
     let from = client.get(key)?;

@@ -40,7 +40,8 @@ impl<C: Content, O: Outage> Model for Store<C, O> {
 impl<C: Content, O: Outage> Store<C, O> {
     /// A store with no entries, whose clock is 0. It takes no memory.
     pub fn new(outage: O, start: Starts<C>) -> Self
-        ensures { result ≡ record { history = record { start = start; events = [] }; row = 0; outage = outage } }
+        ensures { result
+            ≡ record { history = record { start = start; events = [] }; row = 0; outage = outage } }
     {
         Store {
             outage,
@@ -69,8 +70,8 @@ impl<C: Content, O: Outage> Store<C, O> {
 
     /// The object of a key, as it is.
     pub fn get(&mut self, key: &Key) -> Result<Snapshot<C>, StoreRefused>
-        ensures answer { GetGives
-            key.now (clock_of self.old.history) (version_at C.apply self.old.history key.now) result }
+        ensures answer { GetGives key.now (clock_of self.old.history)
+            (version_at C.apply self.old.history key.now) result }
         ensures of { IfOk result (λ s. IsOf C.apply s self.new.history) }
         ensures same { self.new.history ≡ self.old.history }
         ensures outage { Asked O.faults O.most O.asked self.old.outage self.new.outage result }
@@ -103,8 +104,8 @@ impl<C: Content, O: Outage> Store<C, O> {
     ) -> Result<Snapshot<C>, StoreRefused>
         requires entry { MakesObject change key }
         requires makes { C.makes key change content }
-        ensures answer { CreateGives
-            key content (clock_of self.old.history) (version_at C.apply self.old.history key) result }
+        ensures answer { CreateGives key content (clock_of self.old.history)
+            (version_at C.apply self.old.history key) result }
         ensures of { IfOk result (λ s. IsOf C.apply s self.new.history) }
         ensures adds { Adds self.old.history (event change (Some content)) result self.new.history }
         ensures outage { Asked O.faults O.most O.asked self.old.outage self.new.outage result }
@@ -166,7 +167,8 @@ impl<C: Content, O: Outage> Store<C, O> {
     pub fn look(&self, key: &Key) -> Option<&C>
         ensures { MatchOption result
             (version_at C.apply self.now.history key.now ≡ None)
-            (λ content. map_content (version_at C.apply self.now.history key.now) ≡ Some content.now) }
+            (λ content. map_content (version_at C.apply self.now.history key.now)
+            ≡ Some content.now) }
     {
         self.ledger.look(key)
     }

@@ -43,7 +43,8 @@ pub trait Client<T: Content> {
             (seen self.old) result (seen self.new) (others self.old) (others self.new) }
         ensures lag { lag self.new ≡ lag_after key.now (lag self.old) }
         ensures of { IfOk result (λ s. IsOf T.apply s (seen self.new)) }
-        ensures lawful { StaysLawful T.begins T.justified (law self.old) (seen self.old) (seen self.new) }
+        ensures lawful { StaysLawful
+            T.begins T.justified (law self.old) (seen self.old) (seen self.new) }
         ensures size { length (seen self.new).events < 2 ^ 64 }
         ensures law { law self.new ≡ law self.old }
         ensures place { place self.new ≡ place self.old }
@@ -61,7 +62,8 @@ pub trait Client<T: Content> {
             (seen self.old) result (seen self.new) (others self.old) (others self.new) }
         ensures lag { lag self.new ≡ lag self.old }
         ensures of { IfOk result (λ s. IsOf T.apply s (seen self.new)) }
-        ensures lawful { StaysLawful T.begins T.justified (law self.old) (seen self.old) (seen self.new) }
+        ensures lawful { StaysLawful
+            T.begins T.justified (law self.old) (seen self.old) (seen self.new) }
         ensures size { length (seen self.new).events < 2 ^ 64 }
         ensures law { law self.new ≡ law self.old }
         ensures place { place self.new ≡ place self.old }
@@ -85,7 +87,8 @@ pub trait Client<T: Content> {
             (seen self.old) result (seen self.new) (others self.old) (others self.new) }
         ensures lag { lag self.new ≡ lag self.old }
         ensures of { IfOk result (λ s. IsOf T.apply s (seen self.new)) }
-        ensures lawful { StaysLawful T.begins T.justified (law self.old) (seen self.old) (seen self.new) }
+        ensures lawful { StaysLawful
+            T.begins T.justified (law self.old) (seen self.old) (seen self.new) }
         ensures size { length (seen self.new).events < 2 ^ 64 }
         ensures law { law self.new ≡ law self.old }
         ensures place { place self.new ≡ place self.old }
@@ -99,7 +102,8 @@ pub trait Client<T: Content> {
         ensures ticked { Ticked to
             (seen self.old) result (seen self.new) (others self.old) (others self.new) }
         ensures lag { lag self.new ≡ lag self.old }
-        ensures lawful { StaysLawful T.begins T.justified (law self.old) (seen self.old) (seen self.new) }
+        ensures lawful { StaysLawful
+            T.begins T.justified (law self.old) (seen self.old) (seen self.new) }
         ensures size { length (seen self.new).events < 2 ^ 64 }
         ensures law { law self.new ≡ law self.old }
         ensures place { place self.new ≡ place self.old }

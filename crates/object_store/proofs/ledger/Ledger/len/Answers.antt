@@ -1,6 +1,6 @@
-use Rattle.std.proofs.Common.{drop, map, length, sym, ap, ◌∙◌}
+use Rattle.std.proofs.Common.{drop, length, sym, ap, ◌∙◌}
 use Rattle.std.proofs.lemmas.List.{length-map}
-use Rattle.history.specs.History.{History, Event}
+use Rattle.history.specs.History.{History}
 use Rattle.object_store.specs.Inside.Lines.{firsts}
 use Rattle.object_store.specs.Inside.Kept.{paired}
 use Rattle.object_store.proofs.Keeping.{entries_of_paired}
