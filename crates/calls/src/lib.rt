@@ -2,7 +2,11 @@
 #![tactic(auto)]
 
 #[cfg(test)]
+mod cache;
+#[cfg(test)]
 mod common;
+#[cfg(test)]
+mod locks;
 #[cfg(test)]
 mod names;
 #[cfg(test)]
