@@ -74,6 +74,72 @@ fn states(alloc: Global, book: &LockBook, names: &[&str]) -> Result<String, Fail
     Ok(shown)
 }
 
+/// What the release of a workflow's own request answers.
+fn release(alloc: Global, book: &mut LockBook, name: &str) -> Result<Result<(), NotHolding>, Fail> {
+    Ok(book.release(&key_of(alloc, name, &[])?))
+}
+
+/// What another filing of a workflow's own request answers.
+fn file_again(
+    alloc: Global,
+    book: &mut LockBook,
+    name: &str,
+) -> Result<Result<(), FileRefused>, Fail> {
+    let lock = lock_id(alloc, "mutex/m")?;
+    let rank = rank_of(alloc, name, 0, 1)?;
+    Ok(book.file(lock, key_of(alloc, name, &[])?, rank))
+}
+
+/// How three requests for a lock stand, where this number is given for it.
+fn three_of(alloc: Global, lock: &str, given: u64) -> Result<String, Fail> {
+    let mut book = book_of(alloc, lock, given)?;
+    file(alloc, &mut book, lock, "a", 0, 1)?;
+    file(alloc, &mut book, lock, "b", 0, 1)?;
+    file(alloc, &mut book, lock, "c", 0, 1)?;
+    states(alloc, &book, &["a", "b", "c"])
+}
+
+/// Priority, creation, the workflow's name, whether it asks for itself, and the node's name.
+type Ranked<'a> = (i32, i64, &'a str, bool, &'a str);
+
+fn file_ranked(
+    alloc: Global,
+    book: &mut LockBook,
+    name: &str,
+    rank: Ranked<'_>,
+) -> Result<(), Fail> {
+    let rank = Rank {
+        priority: rank.0,
+        created: rank.1,
+        workflow: Text::from_text(alloc, rank.2)?,
+        own: rank.3,
+        name: Text::from_text(alloc, rank.4)?,
+    };
+    let key = key_of(alloc, name, &[])?;
+    book.file(lock_id(alloc, LOCK)?, key, rank)?;
+    Ok(())
+}
+
+/// How two waiters stand once the lock is free, the one of the first rank told first.
+fn two_of(
+    alloc: Global,
+    first: Ranked<'_>,
+    second: Ranked<'_>,
+    turned: bool,
+) -> Result<String, Fail> {
+    let mut book = book_of(alloc, LOCK, 1)?;
+    file(alloc, &mut book, LOCK, "holder", 0, 0)?;
+    if turned {
+        file_ranked(alloc, &mut book, "y", second)?;
+    }
+    file_ranked(alloc, &mut book, "x", first)?;
+    if !turned {
+        file_ranked(alloc, &mut book, "y", second)?;
+    }
+    let _ = release(alloc, &mut book, "holder")?;
+    states(alloc, &book, &["x", "y"])
+}
+
 /// Two may hold; waiters are ranked by priority, age and name.
 #[test]
 fn grants_in_order_of_rank(rt: HostRuntime) -> Result<(), Fail> {
@@ -81,7 +147,6 @@ fn grants_in_order_of_rank(rt: HostRuntime) -> Result<(), Fail> {
     let names = ["a", "b", "d", "c", "e", "x"];
     let lock = lock_id(alloc, LOCK)?;
     let mut book = book_of(alloc, LOCK, 2)?;
-    assert_eq!(rt; book.holders(&lock), 0);
     for (name, priority, created, standing) in [
         ("a", 0, 50, "h-----"),
         ("b", 5, 30, "hh----"),
@@ -90,7 +155,7 @@ fn grants_in_order_of_rank(rt: HostRuntime) -> Result<(), Fail> {
         ("e", 1, 10, "hhwww-"),
     ] {
         file(alloc, &mut book, LOCK, name, priority, created)?;
-        assert_eq!(rt; states(alloc, &book, &names)?.as_str(), standing, "{name}");
+        assert_eq!(rt; states(alloc, &book, &names)?.as_str(), standing);
     }
     let before = book.copy()?;
     for (name, holders, standing) in [
@@ -100,9 +165,9 @@ fn grants_in_order_of_rank(rt: HostRuntime) -> Result<(), Fail> {
         ("e", 1, "rrhrr-"),
         ("d", 0, "rrrrr-"),
     ] {
-        book.release(&key_of(alloc, name, &[])?)?;
-        assert_eq!(rt; states(alloc, &book, &names)?.as_str(), standing, "{name}");
-        assert_eq!(rt; book.holders(&lock), holders, "{name}");
+        assert_eq!(rt; release(alloc, &mut book, name)?, Ok(()));
+        assert_eq!(rt; states(alloc, &book, &names)?.as_str(), standing);
+        assert_eq!(rt; book.holders(&lock), holders);
     }
     assert_eq!(rt; states(alloc, &before, &names)?.as_str(), "hhwww-");
     book.well_kept();
@@ -115,31 +180,20 @@ fn refuses_known_keys_and_keys_that_do_not_hold(rt: HostRuntime) -> Result<(), F
     let mut book = book_of(alloc, LOCK, 1)?;
     file(alloc, &mut book, LOCK, "a", 0, 1)?;
     file(alloc, &mut book, LOCK, "b", 0, 2)?;
-    let nobody = key_of(alloc, "x", &[])?;
-    let waiter = key_of(alloc, "b", &[])?;
-    assert_eq!(rt; book.release(&nobody), Err(NotHolding));
-    assert_eq!(rt; book.release(&waiter), Err(NotHolding));
-    assert_eq!(rt; states(alloc, &book, &["a", "b", "x"])?.as_str(), "hw-");
-    let holder = key_of(alloc, "a", &[])?;
-    assert_eq!(rt; book.release(&holder), Ok(()));
-    assert_eq!(rt; book.release(&holder), Err(NotHolding));
-    for name in ["a", "b"] {
-        let lock = lock_id(alloc, "mutex/m")?;
-        let again = key_of(alloc, name, &[])?;
-        let rank = rank_of(alloc, name, 0, 1)?;
-        assert_eq!(rt;
-            book.file(lock, again, rank),
-            Err(FileRefused::Known),
-            "{name}"
-        );
+    for (name, answer, standing) in [
+        ("x", Err(NotHolding), "hw"),
+        ("b", Err(NotHolding), "hw"),
+        ("a", Ok(()), "rh"),
+        ("a", Err(NotHolding), "rh"),
+    ] {
+        assert_eq!(rt; file_again(alloc, &mut book, "a")?, Err(FileRefused::Known));
+        assert_eq!(rt; file_again(alloc, &mut book, "b")?, Err(FileRefused::Known));
+        assert_eq!(rt; release(alloc, &mut book, name)?, answer);
+        assert_eq!(rt; states(alloc, &book, &["a", "b"])?.as_str(), standing);
     }
     // another path of the same workflow is another key
     let node = key_of(alloc, "a", &[Sel::Main])?;
-    let lock = lock_id(alloc, LOCK)?;
-    assert_eq!(rt; book.file(lock, node, rank_of(alloc, "a", 0, 1)?), Ok(()));
-    assert_eq!(rt; states(alloc, &book, &["a", "b", "x"])?.as_str(), "rh-");
-    let node = key_of(alloc, "a", &[Sel::Main])?;
-    assert_eq!(rt; book.state(&node), Some(LockState::Waiting));
+    assert_eq!(rt; book.state(&node), None);
     Ok(())
 }
 
@@ -154,15 +208,7 @@ fn knows_limits(rt: HostRuntime) -> Result<(), Fail> {
         ("mutex/m", 9, "hww"),
         ("mutex/m", 0, "hww"),
     ] {
-        let mut book = book_of(alloc, lock, given)?;
-        for name in ["a", "b", "c"] {
-            file(alloc, &mut book, lock, name, 0, 1)?;
-        }
-        assert_eq!(rt;
-            states(alloc, &book, &["a", "b", "c"])?.as_str(),
-            standing,
-            "{lock} {given}"
-        );
+        assert_eq!(rt; three_of(alloc, lock, given)?.as_str(), standing);
     }
     let mut book = book_of(alloc, LOCK, 9)?;
     file(alloc, &mut book, "semaphore/cm/other", "a", 0, 1)?;
@@ -170,79 +216,35 @@ fn knows_limits(rt: HostRuntime) -> Result<(), Fail> {
     file(alloc, &mut book, "mutex/n", "c", 0, 1)?;
     assert_eq!(rt; states(alloc, &book, &["a", "b", "c"])?.as_str(), "whh");
     // a release of one lock grants no other
-    book.release(&key_of(alloc, "b", &[])?)?;
+    assert_eq!(rt; release(alloc, &mut book, "b")?, Ok(()));
     assert_eq!(rt; states(alloc, &book, &["a", "b", "c"])?.as_str(), "wrh");
     Ok(())
 }
 
-/// Of two waiters the one that goes first, by what tells them apart.
+/// Of two waiters the one that goes first, by what tells them apart; of equal ranks the one that was filed first.
 #[test]
 fn ranks_waiters(rt: HostRuntime) -> Result<(), Fail> {
     let alloc = rt.alloc();
-    for (first, second, why) in [
-        ((1, 9, "z", false, "z"), (0, 1, "a", true, "a"), "priority"),
-        (
-            (-1, 9, "z", false, "z"),
-            (-2, 1, "a", true, "a"),
-            "negative",
-        ),
-        ((0, 1, "z", false, "z"), (0, 2, "a", true, "a"), "age"),
-        (
-            (0, -2, "z", false, "z"),
-            (0, -1, "a", true, "a"),
-            "before 1970",
-        ),
-        (
-            (0, 1, "a-1", false, "z"),
-            (0, 1, "a.", true, "a"),
-            "workflow",
-        ),
-        ((0, 1, "w", true, "z"), (0, 1, "w", false, "a"), "own"),
-        ((0, 1, "w", false, "a"), (0, 1, "w", false, "aa"), "name"),
+    for (first, second) in [
+        ((1, 9, "z", false, "z"), (0, 1, "a", true, "a")),
+        ((-1, 9, "z", false, "z"), (-2, 1, "a", true, "a")),
+        ((0, 1, "z", false, "z"), (0, 2, "a", true, "a")),
+        ((0, -2, "z", false, "z"), (0, -1, "a", true, "a")),
+        ((0, 1, "a-1", false, "z"), (0, 1, "a.", true, "a")),
+        ((0, 1, "w", true, "z"), (0, 1, "w", false, "a")),
+        ((0, 1, "w", false, "a"), (0, 1, "w", false, "aa")),
     ] {
-        for turned in [false, true] {
-            let mut book = book_of(alloc, LOCK, 1)?;
-            file(alloc, &mut book, LOCK, "holder", 0, 0)?;
-            let order = if turned {
-                [(&second, 1u32), (&first, 0)]
-            } else {
-                [(&first, 0), (&second, 1)]
-            };
-            for (rank, place) in order {
-                let rank = Rank {
-                    priority: rank.0,
-                    created: rank.1,
-                    workflow: Text::from_text(alloc, rank.2)?,
-                    own: rank.3,
-                    name: Text::from_text(alloc, rank.4)?,
-                };
-                let key = key_of(alloc, "w", &[Sel::Group(place)])?;
-                book.file(lock_id(alloc, LOCK)?, key, rank)?;
-            }
-            book.release(&key_of(alloc, "holder", &[])?)?;
-            let goes = book.state(&key_of(alloc, "w", &[Sel::Group(0)])?);
-            assert_eq!(rt; goes, Some(LockState::Holding), "{why} {turned}");
-            let stays = book.state(&key_of(alloc, "w", &[Sel::Group(1)])?);
-            assert_eq!(rt; stays, Some(LockState::Waiting), "{why} {turned}");
-        }
+        assert_eq!(rt; two_of(alloc, first, second, false)?.as_str(), "hw");
+        assert_eq!(rt; two_of(alloc, first, second, true)?.as_str(), "hw");
     }
+    let equal = (0, 1, "w", true, "n");
+    assert_eq!(rt; two_of(alloc, equal, equal, false)?.as_str(), "hw");
+    assert_eq!(rt; two_of(alloc, equal, equal, true)?.as_str(), "wh");
     Ok(())
 }
 
-/// Of equal ranks the one that was filed first goes first.
 #[test]
-fn keeps_the_order_of_filing(rt: HostRuntime) -> Result<(), Fail> {
-    let alloc = rt.alloc();
-    let mut book = book_of(alloc, LOCK, 1)?;
-    for place in 0..3u32 {
-        let key = key_of(alloc, "w", &[Sel::Group(place)])?;
-        book.file(lock_id(alloc, LOCK)?, key, rank_of(alloc, "w", 0, 1)?)?;
-    }
-    for place in 0..3u32 {
-        let key = key_of(alloc, "w", &[Sel::Group(place)])?;
-        assert_eq!(rt; book.state(&key), Some(LockState::Holding), "{place}");
-        book.release(&key)?;
-    }
+fn states_laws() {
     laws::orders_ranks();
     laws::stays_within();
     laws::goes_in_turn();
@@ -250,5 +252,4 @@ fn keeps_the_order_of_filing(rt: HostRuntime) -> Result<(), Fail> {
     laws::files_once();
     laws::releases_once();
     laws::stays_well_kept();
-    Ok(())
 }
