@@ -2,9 +2,13 @@
 #![tactic(auto)]
 
 #[cfg(test)]
+mod cache;
+#[cfg(test)]
 mod common;
 #[cfg(test)]
 mod conditions;
+#[cfg(test)]
+mod locks;
 #[cfg(test)]
 mod names;
 #[cfg(test)]

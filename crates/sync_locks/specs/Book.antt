@@ -25,5 +25,5 @@ abbrev pub with_freed : HolderKey → Book → Book
 with_freed key book = record book { requests = freed book.limits key book.requests }
 
 -- how the request of a key stands, if it has one
-abbrev pub state_of : HolderKey → Book → Option LockState
-state_of key book = option_map (λ (r : Request). r.state) (request_of book.requests key)
+abbrev pub state_in : HolderKey → List Request → Option LockState
+state_in key rs = option_map (λ (r : Request). r.state) (request_of rs key)

@@ -37,7 +37,7 @@ impl LockBook {
     ghost use Rattle.std.specs.Prelude.{◌≡◌, ◌↔◌, ◌≤◌, IsOk, IsErrOf, IfOk, OnOk, OnErr, IsSome};
     ghost use Rattle.books.specs.Books as books;
     ghost use Rattle.books.specs.Laws.{IsWellKept};
-    ghost use Rattle.sync_locks.specs.Book.{unfilled, with_filed, with_freed, state_of};
+    ghost use Rattle.sync_locks.specs.Book.{unfilled, with_filed, with_freed, state_in};
 
     /// The book without requests.
     pub fn new(limits: Limits) -> Result<LockBook, Memory>
@@ -53,7 +53,7 @@ impl LockBook {
 
     /// Files a request for a lock, which holds at once where the lock has room, and waits else.
     pub fn file(&mut self, lock: LockId, key: HolderKey, rank: Rank) -> Result<(), FileRefused>
-        ensures known { IsErrOf result FileRefused.Known ↔ IsSome (state_of key self.old) }
+        ensures known { IsErrOf result FileRefused.Known ↔ IsSome (state_in key self.old.requests) }
         ensures ok { OnOk result (self.new ≡ with_filed lock key rank self.old) }
         ensures err { OnErr result (self.new ≡ self.old) }
     {
@@ -71,7 +71,7 @@ impl LockBook {
 
     /// Releases the lock that a key holds. It goes to the first of its waiters.
     pub fn release(&mut self, key: &HolderKey) -> Result<(), NotHolding>
-        ensures held { IsOk result ↔ (state_of key.now self.old ≡ Some LockState.Holding) }
+        ensures held { IsOk result ↔ (state_in key.now self.old.requests ≡ Some LockState.Holding) }
         ensures ok { OnOk result (self.new ≡ with_freed key.now self.old) }
         ensures err { OnErr result (self.new ≡ self.old) }
     {
@@ -89,7 +89,7 @@ impl LockBook {
 
     /// How the request of a key stands.
     pub fn state(&self, key: &HolderKey) -> Option<LockState>
-        ensures { result ≡ state_of key.now self.now }
+        ensures { result ≡ state_in key.now self.now.requests }
     {
         state_in(&self.rows, key)
     }

@@ -6,6 +6,7 @@ ghost use Rattle.std.specs.List.{list_any};
 ghost use Rattle.books.specs.declared.Request.{Request};
 ghost use Rattle.books.specs.Books as books;
 ghost use Rattle.books.specs.Laws as laws;
+ghost use Rattle.sync_locks.specs.Book.{state_in};
 ghost use Rattle.sync_locks.specs.Inside.Rows as rows;
 
 use crate::ranking::is_before;
@@ -106,7 +107,7 @@ fn find(list: &[Row], key: &HolderKey) -> Option<Found>
 
 // How the request of a key stands.
 pub(crate) fn state_in(list: &[Row], key: &HolderKey) -> Option<LockState>
-    ensures { result ≡ rows.state_in key.now (rows.requests_in list.now) }
+    ensures { result ≡ state_in key.now (rows.requests_in list.now) }
 {
     match find(list, key) {
         None => None,
@@ -224,9 +225,9 @@ pub(crate) fn pass_on(list: &mut Vec<Row>, place: usize)
 // Where the request of a key stands, if it holds its lock.
 pub(crate) fn holder_of(list: &[Row], key: &HolderKey) -> Option<usize>
     ensures { MatchOption result
-        (¬ (rows.state_in key.now (rows.requests_in list.now) ≡ Some LockState.Holding))
+        (¬ (state_in key.now (rows.requests_in list.now) ≡ Some LockState.Holding))
         (λ i. (rows.place (laws.is_of key.now) (rows.requests_in list.now) ≡ Some i)
-        × (rows.state_in key.now (rows.requests_in list.now) ≡ Some LockState.Holding)) }
+        × (state_in key.now (rows.requests_in list.now) ≡ Some LockState.Holding)) }
 {
     match find(list, key) {
         None => None,

@@ -5,9 +5,9 @@ use Rattle.books.specs.declared.Request.{Request}
 use Rattle.tree_types.specs.declared.entry.HolderKey.{HolderKey}
 use Rattle.books.specs.declared.LockState.TheVariants.{Waiting, Holding}
 use Rattle.books.specs.Books.{Text, before}
-use Rattle.books.specs.Books as books
 use Rattle.books.specs.Laws.{is_of, is_first_for}
 use Rattle.books.specs.declared.LockState.{LockState}
+use Rattle.sync_locks.specs.Book.{state_in}
 use Rattle.sync_locks.specs.declared.row.Asked.{Asked}
 use Rattle.sync_locks.specs.declared.row.Row.{Row}
 use Rattle.sync_locks.specs.declared.row.Found.{Found}
@@ -20,10 +20,6 @@ request_in row = request_of row.asked.value row.state
 
 abbrev pub requests_in : List Row → List Request
 requests_in rows = map request_in rows
-
--- how the request of a key stands
-abbrev pub state_in : HolderKey → List Request → Option LockState
-state_in key rs = option_map (λ (r : Request). r.state) (books.request_of rs key)
 
 -- how a new request stands, by whether its lock has room
 abbrev pub state_by : Bool → LockState

@@ -1,7 +1,8 @@
 -- The first row of the key is found, with its place.
 use Rattle.std.proofs.Common.{take, drop, suc, Some, sym, ◌∙◌, ap}
 use Rattle.books.specs.Laws.{is_of}
-use Rattle.sync_locks.specs.Inside.Rows.{request_in, requests_in, place, state_in}
+use Rattle.sync_locks.specs.Book.{state_in}
+use Rattle.sync_locks.specs.Inside.Rows.{request_in, requests_in, place}
 use Rattle.sync_locks.proofs.Scans.{requests_more, requests_split, requests_all, length_seen, no_place_more, place_here}
 use Rattle.sync_locks.proofs.Ranked.{none_there}
 use Rattle.sync_locks.proofs.Changes.{state_here}

@@ -5,7 +5,7 @@ use Rattle.std.specs.List.{list_any}
 use Rattle.tree_types.specs.declared.entry.Limit.{Limit}
 use Rattle.books.specs.Books.{holders, limit_of}
 use Rattle.books.specs.Laws.{is_of}
-use Rattle.sync_locks.specs.Book.{Book, state_of}
+use Rattle.sync_locks.specs.Book.{Book, state_in}
 use Rattle.sync_locks.specs.declared.row.Row.{Row}
 use Rattle.std.specs.Result.{IsErrAnd}
 use Rattle.sync_locks.specs.declared.refused.FileRefused.{FileRefused}
@@ -23,7 +23,7 @@ pub returns-in_err-add_row-in-Some-clause-known : goal.returns-in_err-add_row-in
 returns-in_err-add_row-in-Some-clause-known c =
     let key = c.args.key in
     let n = ap (λ (x : List Row). list_any (is_of key) (requests_in x)) (sym c.deref.ensures.value) ∙ c.in-Some.ensures.0 in
-    (λ e. absurd (other c.from_residual.result c.from_residual.ensures.1 e), λ s. absurd (state_none key (requests_in c.self.inside.rows.items) n (subst (λ (b : Book). IsSome (state_of key b)) (sym c.self.view_is) s)))
+    (λ e. absurd (other c.from_residual.result c.from_residual.ensures.1 e), λ s. absurd (state_none key (requests_in c.self.inside.rows.items) n (subst (λ (b : Book). IsSome (state_in key b.requests)) (sym c.self.view_is) s)))
 
 pub invariant_of-self-in-Some : goal.invariant_of-self-in-Some
 invariant_of-self-in-Some c =
@@ -41,10 +41,10 @@ pub returns-in-None-clause-known : goal.returns-in-None-clause-known
 returns-in-None-clause-known c =
     let key = c.args.key in
     let there = ap (λ (x : List Row). list_any (is_of key) (requests_in x)) (sym c.deref.ensures.value) ∙ c.in-None.ensures in
-    (λ e. subst (λ (b : Book). IsSome (state_of key b)) c.self.view_is (state_some key (requests_in c.self.inside.rows.items) there), λ s. refl)
+    (λ e. subst (λ (b : Book). IsSome (state_in key b.requests)) c.self.view_is (state_some key (requests_in c.self.inside.rows.items) there), λ s. refl)
 
 pub returns-in_ok-add_row-in-Some-clause-known : goal.returns-in_ok-add_row-in-Some-clause-known
 returns-in_ok-add_row-in-Some-clause-known c =
     let key = c.args.key in
     let n = ap (λ (x : List Row). list_any (is_of key) (requests_in x)) (sym c.deref.ensures.value) ∙ c.in-Some.ensures.0 in
-    (λ e. absurd (cc e), λ s. absurd (state_none key (requests_in c.self.inside.rows.items) n (subst (λ (b : Book). IsSome (state_of key b)) (sym c.self.view_is) s)))
+    (λ e. absurd (cc e), λ s. absurd (state_none key (requests_in c.self.inside.rows.items) n (subst (λ (b : Book). IsSome (state_in key b.requests)) (sym c.self.view_is) s)))

@@ -2,9 +2,9 @@
 use Rattle.std.proofs.Common.{List, sym, ◌∙◌, ap, arith}
 use Rattle.books.specs.declared.Request.{Request}
 use Rattle.books.specs.Laws.{is_of}
-use Rattle.sync_locks.specs.Book.{with_freed}
+use Rattle.sync_locks.specs.Book.{with_freed, state_in}
 use Rattle.sync_locks.specs.declared.row.Row.{Row}
-use Rattle.sync_locks.specs.Inside.Rows.{requests_in, place, state_in}
+use Rattle.sync_locks.specs.Inside.Rows.{requests_in, place}
 use Rattle.sync_locks.proofs.Places.{within}
 use Rattle.sync_locks.proofs.Events.{freed_rows, freed_kept}
 use Rattle.sync_locks.proofs.book.LockBook.release.Goals as goal
