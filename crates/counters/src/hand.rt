@@ -6,9 +6,10 @@ ghost use Rattle.store_client.specs.Calls.{StaysLawful};
 
 use crate::counter::{Counter, Limit};
 use base_types::{List, TryCopy};
-use object_store::{Content, StoreRefused};
+use io_edge::Outage;
+use object_store::{Content, Store, StoreRefused};
 use std::alloc::Global;
-use store_client::Client;
+use store_client::{Client, MemClient};
 use tree_types::{Entry, Key};
 
 /// Reads a counter, and writes it one higher where it is below the limit. The answer is what the hand has counted to.
@@ -38,4 +39,17 @@ pub fn count_once<C: Client<Counter>>(
     let next = from.content.after(&change)?;
     let written = client.write(&from, next, change)?;
     Ok(written.content.count)
+}
+
+/// One turn: a hand counts once, where it may read so many versions back.
+pub fn turn<O: Outage>(
+    alloc: Global,
+    store: &mut Store<Counter, O>,
+    limit: &Limit,
+    key: &Key,
+    back: u64,
+) -> Result<u64, StoreRefused> {
+    let mut client = MemClient::new(store, limit);
+    client.set_lag(back);
+    count_once(alloc, &mut client, limit, key)
 }

@@ -5,15 +5,15 @@ ghost use Rattle.std.specs.Prelude.{◌≡◌};
 
 mod counter;
 mod hand;
+mod single;
 
 use base_types::{List, Text, TryCopy};
 use counter::{Counter, Limit};
-use hand::count_once;
-use io_edge::{Outage, PlannedOutage};
+use hand::turn;
+use io_edge::PlannedOutage;
 use object_store::{Starts, Store, StoreRefused};
 use std::alloc::Global;
 use std::process::ExitCode;
-use store_client::MemClient;
 use tree_types::{Entry, Key};
 
 const TURNS: u64 = 8;
@@ -32,19 +32,6 @@ fn counting(
     };
     store.create(Key::Workflow(name.copy()?), Counter { count: 0 }, made)?;
     Ok(store)
-}
-
-// One turn: a hand counts once, where it may read so many versions back.
-fn turn<O: Outage>(
-    alloc: Global,
-    store: &mut Store<Counter, O>,
-    limit: &Limit,
-    key: &Key,
-    back: u64,
-) -> Result<u64, StoreRefused> {
-    let mut client = MemClient::new(store, limit);
-    client.set_lag(back);
-    count_once(alloc, &mut client, limit, key)
 }
 
 // Every second turn is of a hand that reads stale; it tries again by what stands.
@@ -75,8 +62,13 @@ fn run(rt: &HostRuntime) -> Result<(), StoreRefused> {
     Ok(())
 }
 
+fn both(rt: &HostRuntime) -> Result<(), StoreRefused> {
+    run(rt)?;
+    single::run(rt)
+}
+
 fn main(rt: HostRuntime) -> ExitCode {
-    match run(&rt) {
+    match both(&rt) {
         Ok(()) => ExitCode::SUCCESS,
         Err(refused) => {
             let _ = println!(rt; "counters: {refused}");
