@@ -1,6 +1,5 @@
 -- A number under the key of a workflow, which each write makes one more.
-use Rattle.std.specs.Prelude.{◌≡◌, ℕ, ◌+◌, ◌-◌, ◌^◌, cond, nat_lt, Option, Some, None}
-use Rattle.tree_types.specs.declared.entry.Key.{Key}
+use Rattle.std.specs.Prelude.{◌≡◌, ◌+◌, ◌-◌, ◌^◌, cond, nat_lt, Option, Some, None}
 use Rattle.tree_types.specs.declared.entry.Key.TheVariants.{Workflow}
 use Rattle.tree_types.specs.declared.entry.Entry.{Entry}
 use Rattle.tree_types.specs.declared.entry.Entry.TheVariants.{Write}

@@ -40,7 +40,7 @@ fn hand<G: Gate, R: Wait>(
     (seat, tally)
 }
 
-/// What the joined seat has seen goes on from what the seat had seen.
+/// The seat that comes back has the share that went in.
 pub fn two_hands<G: Gate + Sync, R: Threads + Wait + Sync>(
     rt: &R,
     alloc: Global,

@@ -1,4 +1,4 @@
-use Rattle.std.proofs.Common.{List, [], ◌∷◌}
+use Rattle.std.proofs.Common.{[], ◌∷◌}
 use mir.Syntax.{Sym, Ty, Lifetime}
 use base.Fml.{Lft}
 use denote.Exit.{Kept}
