@@ -1,5 +1,5 @@
 -- Calls at a store under a turn, each answered at one history.
-use Rattle.std.specs.Prelude.{◌≡◌, ℕ, Option, None, Result}
+use Rattle.std.specs.Prelude.{ℕ, Option, None, Result}
 use Rattle.tree_types.specs.declared.entry.Key.{Key}
 use Rattle.tree_types.specs.declared.entry.Entry.{Entry}
 use Rattle.tree_types.specs.declared.entry.Entry.TheVariants.{Tick}
