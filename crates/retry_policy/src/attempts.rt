@@ -76,10 +76,12 @@ fn is_time_left(backoff: Option<Backoff>, begin: u64, finish: u64) -> bool
     ensures { result ≡ pods.time_left backoff begin finish }
 {
     match backoff {
-        Some(Backoff {
-            max_duration: Some(most),
-            ..
-        }) => finish.saturating_sub(begin) < most,
+        Some(
+            Backoff {
+                max_duration: Some(most),
+                ..
+            },
+        ) => finish.saturating_sub(begin) < most,
         _ => true,
     }
 }
