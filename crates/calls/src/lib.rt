@@ -8,9 +8,25 @@ mod common;
 #[cfg(test)]
 mod conditions;
 #[cfg(test)]
+mod documents;
+#[cfg(test)]
+mod edge;
+#[cfg(test)]
+mod evaluation;
+#[cfg(test)]
+mod fields;
+#[cfg(test)]
+mod kinds;
+#[cfg(test)]
 mod locks;
 #[cfg(test)]
+mod loops;
+#[cfg(test)]
+mod manifests;
+#[cfg(test)]
 mod names;
+#[cfg(test)]
+mod states;
 #[cfg(test)]
 mod tags;
 #[cfg(test)]

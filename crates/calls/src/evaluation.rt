@@ -1,0 +1,211 @@
+//! Trees of recorded workflows, and their text (`tree_eval`, `tree_print`).
+
+ghost use Rattle.wf_manifest.specs.Valid.{Valid};
+ghost use Rattle.wf_manifest.specs.FirstForm.{IsFirstForm};
+
+use crate::documents::document;
+use crate::states::{notes, plain_notes};
+use base_types::{Bytes, List, Memory, Text, TryCopy};
+use std::alloc::Global;
+use std::test::Fail;
+use tree_eval::{JournalIndex, evaluate, tree};
+use tree_print::print_tree;
+use tree_types::{
+    Fact, Journal, Kind, Node, Nodes, Note, Outcome, Outputs, Params, Path, Phase, Sel, Sels, Tree,
+};
+use wf_bundle::{Form, read_form};
+
+/// An end of a pod; any phase but Failed and Error is taken as Succeeded.
+fn outcome(alloc: Global, phase: Phase) -> Outcome {
+    let phase = match phase {
+        Phase::Failed => Phase::Failed,
+        Phase::Error => Phase::Error,
+        _ => Phase::Succeeded,
+    };
+    Outcome {
+        phase,
+        result: None,
+        params: Params::new(alloc),
+        transient: false,
+        begin: 0,
+        finish: 1,
+    }
+}
+
+/// The path of a step of the first group.
+fn step(alloc: Global, place: u32) -> Result<Path, Memory> {
+    Ok(Path {
+        sels: Sels::from_slice(alloc, &[Sel::Main, Sel::Group(0), Sel::Step(place)])?,
+    })
+}
+
+/// What is recorded of a workflow whose first group has two steps: how the pod of the first ended, and how that of the second
+/// ended in an older workflow.
+#[derive(Clone, Copy)]
+enum Known {
+    Nothing,
+    Begun,
+    One(Phase),
+    Both(Phase, Phase),
+}
+
+fn journal(alloc: Global, known: Known) -> Result<Journal, Memory> {
+    let mut journal = Journal::new(alloc);
+    match known {
+        Known::Nothing => {}
+        Known::Begun => journal.add(Fact::Started)?,
+        Known::One(settled) => {
+            journal.add(Fact::Started)?;
+            journal.add(Fact::Settled(step(alloc, 0)?, outcome(alloc, settled)))?;
+        }
+        Known::Both(settled, carried) => {
+            journal.add(Fact::Started)?;
+            journal.add(Fact::Settled(step(alloc, 0)?, outcome(alloc, settled)))?;
+            journal.add(Fact::Carried(step(alloc, 1)?, outcome(alloc, carried)))?;
+        }
+    }
+    Ok(journal)
+}
+
+/// The text of a document's tree.
+fn printed(alloc: Global, form: &Form, journal: &Journal) -> Result<Bytes, Fail>
+    requires valid { Valid form.now.manifest }
+    requires first { IsFirstForm form.now.manifest }
+{
+    let manifest = &form.manifest;
+    let recorded = JournalIndex::new(journal)?;
+    let alone = tree(manifest, &recorded)?;
+    let evaluated = evaluate(manifest, &recorded)?;
+    if alone.nodes.len() != evaluated.tree.nodes.len() {
+        return Err(Fail::new("two trees"));
+    }
+    Ok(print_tree(alloc, &manifest.name, evaluated.phase, &evaluated.tree)?)
+}
+
+const NOT_BEGUN: &str = "workflow w Pending
+  Pending Steps w
+";
+
+const BEGUN: &str = "workflow w Running
+  Running Steps w
+    Running StepGroup w[0]
+      Running Pod w[0].a
+      Running Pod w[0].b
+";
+
+const ONE_ENDED: &str = "workflow w Running
+  Running Steps w
+    Running StepGroup w[0]
+      Error Pod w[0].a
+      Running Pod w[0].b
+";
+
+const NEXT_GROUP: &str = "workflow w Running
+  Running Steps w
+    Succeeded StepGroup w[0]
+      Succeeded Pod w[0].a
+      Succeeded Pod w[0].b -- carried
+    Running StepGroup w[1]
+      Running Pod w[1].d
+";
+
+const FAILED: &str = "workflow w Failed
+  Failed Steps w
+    Failed StepGroup w[0]
+      Failed Pod w[0].a
+      Succeeded Pod w[0].b -- carried
+";
+
+const WORST: &str = "workflow w Error
+  Error Steps w
+    Error StepGroup w[0]
+      Failed Pod w[0].a
+      Error Pod w[0].b -- carried
+";
+
+#[test]
+fn evaluates_and_prints(rt: HostRuntime) -> Result<(), Fail> {
+    let alloc = rt.alloc();
+    let templates = r#"{"name":"m","steps":[
+        [{"name":"a","template":"c"},{"name":"b","template":"c"}],
+        [{"name":"d","template":"c"}]
+    ]},{"name":"c","container":{}}"#;
+    let value = document(alloc, templates, r#","default":{"phase":"Succeeded"}"#)?;
+    for (known, text) in [
+        (Known::Nothing, NOT_BEGUN),
+        (Known::Begun, BEGUN),
+        (Known::One(Phase::Error), ONE_ENDED),
+        (Known::Both(Phase::Succeeded, Phase::Succeeded), NEXT_GROUP),
+        (Known::Both(Phase::Failed, Phase::Succeeded), FAILED),
+        (Known::Both(Phase::Failed, Phase::Error), WORST),
+    ] {
+        match read_form(alloc, &value)? {
+            None => assert!(rt; false),
+            Some(form) => {
+                let found = printed(alloc, &form, &journal(alloc, known)?)?;
+                assert!(rt; found.as_slice() == text.as_bytes());
+            }
+        }
+    }
+    Ok(())
+}
+
+const NOTES: &str = r"workflow w\x0a\x5c\x7fé Omitted
+Skipped TaskGroup n\x1f~
+Skipped TaskGroup n\x1f~ -- when is false
+Skipped TaskGroup n\x1f~ -- depends is false
+Skipped TaskGroup n\x1f~ -- Skipped, empty params
+Skipped TaskGroup n\x1f~ -- carried
+Skipped TaskGroup n\x1f~ -- nested too deep
+Skipped TaskGroup n\x1f~ -- bad when
+Skipped TaskGroup n\x1f~ -- not numbers
+Skipped TaskGroup n\x1f~ -- withParam is not a list
+Skipped TaskGroup n\x1f~ -- bad item
+Skipped TaskGroup n\x1f~ -- bad number
+Skipped TaskGroup n\x1f~ -- bad format
+Skipped TaskGroup n\x1f~ -- too many items
+Skipped TaskGroup n\x1f~ -- bad duration
+Skipped TaskGroup n\x1f~ -- waiting for mutex/m
+Skipped TaskGroup n\x1f~ -- looking in c
+Skipped TaskGroup n\x1f~ -- hit c k
+Skipped TaskGroup n\x1f~ -- unresolved t
+Skipped TaskGroup n\x1f~ -- missing output p
+";
+
+/// A node with a note, of depth 0.
+fn noted(alloc: Global, note: &Note) -> Result<Node, Memory> {
+    Ok(Node {
+        path: Path {
+            sels: Sels::new(alloc),
+        },
+        name: Text::from_text(alloc, "n\u{1f}~")?,
+        kind: Kind::TaskGroup,
+        phase: Phase::Skipped,
+        note: note.copy()?,
+        outputs: Outputs {
+            result: None,
+            params: Params::new(alloc),
+        },
+        depth: 0,
+    })
+}
+
+fn add_nodes(alloc: Global, nodes: &mut Nodes, notes: &List<Note>) -> Result<(), Memory> {
+    for note in notes.iter() {
+        nodes.push(noted(alloc, note)?)?;
+    }
+    Ok(())
+}
+
+/// A node of each note, the notes that say nothing more first.
+#[test]
+fn prints_notes(rt: HostRuntime) -> Result<(), Fail> {
+    let alloc = rt.alloc();
+    let mut nodes = Nodes::new(alloc);
+    add_nodes(alloc, &mut nodes, &plain_notes(alloc)?)?;
+    add_nodes(alloc, &mut nodes, &notes(alloc)?)?;
+    let workflow = Text::from_text(alloc, "w\n\\\u{7f}é")?;
+    let text = print_tree(alloc, &workflow, Phase::Omitted, &Tree { nodes })?;
+    assert!(rt; text.as_slice() == NOTES.as_bytes());
+    Ok(())
+}
