@@ -156,11 +156,20 @@ pub(crate) fn document(alloc: Global, templates: &str, planned: &str) -> Result<
     Ok(Value::from_str(alloc, text.as_str())?)
 }
 
+const ALL_SUCCEED: &str = r#","default":{"phase":"Succeeded"}"#;
+
+const NO_STEPS: &str = r#"{"name":"m","steps":[]}"#;
+
+/// Whether a document of these templates and this plan is of the form.
+fn is_of_the_form(alloc: Global, templates: &str, planned: &str) -> Result<bool, Fail> {
+    let value = document(alloc, templates, planned)?;
+    Ok(read_form(alloc, &value)?.is_some())
+}
+
 /// Which templates and plans are of the form.
 #[test]
 fn tells_documents(rt: HostRuntime) -> Result<(), Fail> {
     let alloc = rt.alloc();
-    let planned = r#","default":{"phase":"Succeeded"}"#;
     for (templates, is) in [
         (r#"{"name":"m","steps":[]}"#, true),
         (
@@ -199,8 +208,10 @@ fn tells_documents(rt: HostRuntime) -> Result<(), Fail> {
         ),
         (r#"{"name":"m","steps":[]},7"#, false),
     ] {
-        let value = document(alloc, templates, planned)?;
-        assert_eq!(rt; read_form(alloc, &value)?.is_some(), is, "{templates}");
+        assert!(rt;
+            is_of_the_form(alloc, templates, ALL_SUCCEED)? == is,
+            "{templates}"
+        );
     }
     for (planned, is) in [
         (r#","default":{"phase":"Error"},"pods":[]"#, true),
@@ -214,19 +225,29 @@ fn tells_documents(rt: HostRuntime) -> Result<(), Fail> {
             false,
         ),
     ] {
-        let value = document(alloc, r#"{"name":"m","steps":[]}"#, planned)?;
-        assert_eq!(rt; read_form(alloc, &value)?.is_some(), is, "{planned}");
+        assert!(rt;
+            is_of_the_form(alloc, NO_STEPS, planned)? == is,
+            "{planned}"
+        );
     }
+    Ok(())
+}
+
+/// Whether a text is a document of the form.
+fn reads_as_form(alloc: Global, text: &str) -> Result<bool, Fail> {
+    Ok(read_form(alloc, &Value::from_str(alloc, text)?)?.is_some())
+}
+
+#[test]
+fn refuses_what_is_no_document(rt: HostRuntime) -> Result<(), Fail> {
+    let alloc = rt.alloc();
     for text in [
         "7",
         "{}",
         r#"{"kind":"List"}"#,
         r#"{"kind":"List","items":[]}"#,
     ] {
-        assert!(rt;
-            read_form(alloc, &Value::from_str(alloc, text)?)?.is_none(),
-            "{text}"
-        );
+        assert!(rt; !reads_as_form(alloc, text)?, "{text}");
     }
     Ok(())
 }
@@ -251,12 +272,7 @@ fn tells_names_of_steps(rt: HostRuntime) -> Result<(), Fail> {
         let templates = format!(in alloc;
             r#"{{"name":"m","steps":[[{{"name":"{one}","template":"c"}}],[{{"name":"{other}","template":"c"}}]]}},{{"name":"c","container":{{}}}}"#
         )?;
-        let value = document(
-            alloc,
-            templates.as_str(),
-            r#","default":{"phase":"Succeeded"}"#,
-        )?;
-        assert_eq!(rt; read_form(alloc, &value)?.is_some(), is, "{one} {other}");
+        assert!(rt; is_of_the_form(alloc, templates.as_str(), ALL_SUCCEED)? == is);
     }
     Ok(())
 }
