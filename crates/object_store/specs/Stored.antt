@@ -10,9 +10,13 @@ pub record Stored (C O : Type 0) : Type 0 where
   pub row : ℕ
   pub outage : O
 
--- how many in a row answered Fault after one call more; once they are 16 they stay 16
+-- after so many Faults in a row the store counts as lost
+abbrev pub most_faults : ℕ
+most_faults = 16
+
+-- how many in a row answered Fault after one call more; once they are the most they stay so
 abbrev pub row_after : {T : Type 0} → ℕ → Result T StoreRefused → ℕ
-row_after row result = if row == 16 then 16 else (if is_fault result then row + 1 else 0)
+row_after row result = if row == most_faults then most_faults else (if is_fault result then row + 1 else 0)
 
 -- The outage was asked once, and the call answered Fault exactly where it did not let it pass. There alone its faults
 -- rose. They are never more than its bound, which stays.

@@ -15,7 +15,7 @@ use io_edge::Outage;
 use std::marker::Model;
 use tree_types::{Entries, Entry, Key};
 
-/// After so many Faults in a row the store counts as lost.
+// After so many Faults in a row the store counts as lost.
 const MOST_FAULTS: u64 = 16;
 
 /// Contracts see its history, how many of its last calls in a row answered Fault, and its outage.
@@ -28,13 +28,13 @@ pub struct Store<C: Content, O: Outage> {
 
 impl<C: Content, O: Outage> Model for Store<C, O> {
     ghost use Rattle.std.specs.Prelude.{◌≤◌};
-    ghost use Rattle.object_store.specs.Stored.{Stored};
+    ghost use Rattle.object_store.specs.Stored.{Stored, most_faults};
 
     ghost Value = { Stored C O };
 
     ghost view = { λ s. record { history = s.ledger; row = s.row; outage = s.outage } };
 
-    ghost invariant = { λ s. s.row ≤ 16 };
+    ghost invariant = { λ s. s.row ≤ most_faults };
 }
 
 impl<C: Content, O: Outage> Store<C, O> {

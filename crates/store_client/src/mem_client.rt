@@ -80,6 +80,7 @@ impl<'a, T: Content, O: Outage> Client<T> for MemClient<'a, T, O> {
         } else {
             self.store.get_back(key, lag)
         };
+        // Read for its clause alone: a list is shorter than 2^64, which bounds what was seen.
         let _length = self.store.len();
         answer
     }
