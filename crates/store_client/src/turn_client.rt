@@ -21,7 +21,7 @@ pub struct TurnClient<'a, T: Content, O: Outage, G: Gate, R: Wait> {
     pub law: &'a T::Law,
     rt: &'a R,
     gate: &'a G,
-    worker: u32,
+    pub worker: u32,
     calls: u64,
     faults: u64,
     own: u64,
@@ -57,6 +57,7 @@ impl<'a, T: Content, O: Outage, G: Gate, R: Wait> TurnClient<'a, T, O, G, R> {
         ensures borrow { result.seat.ghost_name ≡ seat.entry.ghost_name }
         ensures turn { result.turn.now ≡ turn.now }
         ensures law { result.law.now ≡ law.now }
+        ensures worker { result.worker ≡ worker }
     {
         TurnClient {
             turn,
