@@ -1,0 +1,3 @@
+mod ParsesDigits
+mod Soundness
+mod Worked
