@@ -5,6 +5,7 @@ use Rattle.serde_json.specs.Data.{Data}
 use Rattle.tree_types.specs.declared.path.Sel.{Sel}
 use Rattle.tree_types.specs.declared.path.Sel.TheVariants.{Main, Exit, Item}
 use Rattle.tree_types.specs.declared.path.LockId.{LockId}
+use Rattle.tree_types.specs.declared.path.Path.{Path}
 use Rattle.tree_types.specs.declared.phase.Phase.{Phase}
 use Rattle.tree_types.specs.declared.phase.Phase.TheVariants.{Pending, Running, Succeeded, Skipped, Failed, Error, Omitted}
 use Rattle.tree_types.specs.declared.node.Kind.{Kind}
@@ -49,7 +50,7 @@ use Rattle.growth.proofs.GrowingCalls.{any_behind, memo_grew, one_grew, calls_gr
 use Rattle.growth.proofs.GrowingTrees.{answered, answered_more, only_save}
 use Rattle.askings.specs.Owners.{memo_of_spot, memo_at}
 use Rattle.askings.proofs.Walks.{Stood, stood_lock, stood_in, stood_not_empty, no_lock, Within, within_child, within_hook}
-use Rattle.askings.proofs.Tours.{Part, part_left, part_right, Quiet, Idle, over_idle, LockGranted, Headed, topped_headed, Tour}
+use Rattle.askings.proofs.Tours.{Part, part_left, part_right, Quiet, Idle, over_idle, unsucceeded, unmemoized, LockGranted, Headed, topped_headed, Tour}
 use Rattle.askings.proofs.TourBodies.{Placed, BodyGood, alone_good, rows_good, pod_good, retry_good, suspend_good, RunGood, RunQuiet, rows_quiet, steps_good, dag_good, after_node}
 use Rattle.meaning.proofs.Flattening.{lines_hooked}
 
@@ -96,15 +97,15 @@ module _ (m : Manifest) (A : Answers) (whole : List Line) (T : Tour m A whole) (
 
     -- ---- a template
 
-    body_good : (p : Place) (s : Scope) (t : Template) (hook : Option Hook) → SetAt p hook t → (r : Option Retry) (b : Body) → t.body ≡ b → PartOf (lines_in (body_by A run p s t.outputs r b)) → BodyOf p (body_by A run p s t.outputs r b)
-    body_good p s t hook a None body.Pod e f = pod_good m A whole T own p t.outputs (A.outcome p) refl a.within a.here f
-    body_good p s t hook a (Some r) body.Pod e f = retry_good m A whole T own p t.outputs r t hook a f
-    body_good p s t hook a None (body.Steps gs) e f = steps_good m A whole T own run good run_quiet p t hook gs e a s t.outputs f
-    body_good p s t hook a (Some r) (body.Steps gs) e f = steps_good m A whole T own run good run_quiet p t hook gs e a s t.outputs f
-    body_good p s t hook a None (body.Dag d) e f = dag_good m A whole T own run good run_quiet p s d t hook e a t.outputs f
-    body_good p s t hook a (Some r) (body.Dag d) e f = dag_good m A whole T own run good run_quiet p s d t hook e a t.outputs f
-    body_good p s t hook a None (body.Suspend o) e f = suspend_good m A whole T own p s t.outputs t hook a o f
-    body_good p s t hook a (Some r) (body.Suspend o) e f = suspend_good m A whole T own p s t.outputs t hook a o f
+    body_good : (p : Place) (s : Scope) (t : Template) (hook : Option Hook) → SetAt p hook t → (r : Option Retry) (b : Body) → t.retry ≡ r → t.body ≡ b → PartOf (lines_in (body_by A run p s t.outputs r b)) → BodyOf p (body_by A run p s t.outputs r b)
+    body_good p s t hook a None body.Pod i e f = pod_good m A whole T own p t.outputs (A.outcome p) refl a.within a.here f
+    body_good p s t hook a (Some r) body.Pod i e f = retry_good m A whole T own p t.outputs r t hook i a f
+    body_good p s t hook a None (body.Steps gs) i e f = steps_good m A whole T own run good run_quiet p t hook gs e a s t.outputs f
+    body_good p s t hook a (Some r) (body.Steps gs) i e f = steps_good m A whole T own run good run_quiet p t hook gs e a s t.outputs f
+    body_good p s t hook a None (body.Dag d) i e f = dag_good m A whole T own run good run_quiet p s d t hook e a t.outputs f
+    body_good p s t hook a (Some r) (body.Dag d) i e f = dag_good m A whole T own run good run_quiet p s d t hook e a t.outputs f
+    body_good p s t hook a None (body.Suspend o) i e f = suspend_good m A whole T own p s t.outputs t hook a o e f
+    body_good p s t hook a (Some r) (body.Suspend o) i e f = suspend_good m A whole T own p s t.outputs t hook a o e f
 
     succeeded : (ph : Phase) → is_succeeded ph ≡ true → ph ≡ Succeeded
     succeeded Succeeded e = refl
@@ -115,27 +116,29 @@ module _ (m : Manifest) (A : Answers) (whole : List Line) (T : Tour m A whole) (
     succeeded Pending e = not_both false e refl
     succeeded Running e = not_both false e refl
 
-    saving_good : (p : Place) (c : Memoize) (key : List ℕ) (b : Made) (t : Bool) → memo_at m p.sels ≡ Some c → is_succeeded b.own.node.phase ≡ t → (PartOf (lines_in b) → BodyOf p b) → GoodPart (lines_in (saving_if t p c key b))
-    saving_good p c key b false e s h f = (h f).good
-    saving_good p c key b true e s h f =
+    saving_good : (p : Place) (s : Scope) (c : Memoize) (key : List ℕ) (b : Made) (t : Bool) → said s c.key ≡ Ok key → memo_at m p.sels ≡ Some c → is_succeeded b.own.node.phase ≡ t → (PartOf (lines_in b) → BodyOf p b) → GoodPart (lines_in (saving_if t p c key b))
+    saving_good p s c key b false r e x h f = (h f).good (unsucceeded m A b.own.node x)
+    saving_good p s c key b true r e q h f =
         let x : Line = Asks (want.Save (path p.sels) c.cache key b.own.node.outputs) in
         let part : PartOf (lines_in b) = λ n i. f n (any_behind (IsNode n) x (lines_in b) i) in
         let y = h part in
-        T.save b.own.node p.sels b.own.node.outputs c key (after_node m A whole T own b) y.at.path refl (succeeded b.own.node.phase s) e (y.tail s) part
+        T.save b.own.node p.sels b.own.node.outputs c s key (after_node m A whole T own b) r y.at.path refl (succeeded b.own.node.phase q) e (y.tail q) part
 
     module _ (t : Template) (hook : Option Hook) where
-      remembered_good : (p : Place) (s : Scope) (c : Memoize) (key : List ℕ) → t.memoize ≡ Some c → SetAt p hook t → (o : Option MemoAnswer) → GoodPart (lines_in (remembered A run p s t c key o))
-      remembered_good p s c key e a None f = T.look p (kind_of t) c key (ap memo_of_spot a.stood.is ∙ e) f
-      remembered_good p s c key e a (Some None) f = saving_good p c key (body_made A run p s t) _ (ap memo_of_spot a.stood.is ∙ e) refl (body_good p s t hook a t.retry t.body refl) f
-      remembered_good p s c key e a (Some (Some o)) f = T.stands (node p (kind_of t) Succeeded (note.Hit c.cache key) o) [] (over_idle (node p (kind_of t) Succeeded (note.Hit c.cache key) o) refl) T.none
+      remembered_good : (p : Place) (s : Scope) (c : Memoize) (key : List ℕ) → said s c.key ≡ Ok key → t.memoize ≡ Some c → SetAt p hook t → (o : Option MemoAnswer) → A.memo p.sels ≡ o → GoodPart (lines_in (remembered A run p s t c key o))
+      remembered_good p s c key r e a None q f = T.look p (kind_of t) c key (ap memo_of_spot a.stood.is ∙ e) f
+      remembered_good p s c key r e a (Some None) q f = saving_good p s c key (body_made A run p s t) _ r (ap memo_of_spot a.stood.is ∙ e) refl (body_good p s t hook a t.retry t.body refl refl) f
+      remembered_good p s c key r e a (Some (Some o)) q f = T.stands (node p (kind_of t) Succeeded (note.Hit c.cache key) o) [] (over_idle whole (node p (kind_of t) Succeeded (note.Hit c.cache key) o) refl) (λ d y z x. absurd (cc (q, x))) T.none
 
-      keyed_good : (p : Place) (s : Scope) (c : Memoize) → t.memoize ≡ Some c → SetAt p hook t → (k : Found (List ℕ)) → GoodPart (lines_in (keyed A run p s t c k))
-      keyed_good p s c e a (Err fault) f = alone_good m A whole T own p (kind_of t) Error fault refl
-      keyed_good p s c e a (Ok key) f = remembered_good p s c key e a (A.memo p.sels) f
+      keyed_good : (p : Place) (s : Scope) (c : Memoize) → t.memoize ≡ Some c → SetAt p hook t → (k : Found (List ℕ)) → said s c.key ≡ k → GoodPart (lines_in (keyed A run p s t c k))
+      keyed_good p s c e a (Err fault) r f = alone_good m A whole T own p (kind_of t) Error fault refl refl
+      keyed_good p s c e a (Ok key) r f = remembered_good p s c key r e a (A.memo p.sels) refl f
 
       memo_good : (p : Place) (s : Scope) → SetAt p hook t → (o : Option Memoize) → t.memoize ≡ o → GoodPart (lines_in (memo_made A run p s t o))
-      memo_good p s a None e f = (body_good p s t hook a t.retry t.body refl f).good
-      memo_good p s a (Some c) e f = keyed_good p s c e a (said s c.key) f
+      memo_good p s a None e f =
+          let x = body_good p s t hook a t.retry t.body refl refl f in
+          x.good (unmemoized m A (body_made A run p s t).own.node (ap (λ (q : Path). memo_at m q.sels) x.at.path ∙ ap memo_of_spot a.stood.is ∙ e))
+      memo_good p s a (Some c) e f = keyed_good p s c e a (said s c.key) refl f
 
       abbrev memoized : Place → Scope → Made
       memoized p s = memo_made A run p s t t.memoize
@@ -160,11 +163,11 @@ module _ (m : Manifest) (A : Answers) (whole : List Line) (T : Tour m A whole) (
 
     module _ (p : Place) (hook : Option Hook) (w : Within T.Known p.sels) (follow : Made → Made) (after : (b : Made) (t : Template) → Stood m p.sels (of_template t hook) → GoodPart (lines_in b) → GoodPart (lines_in (follow b))) where
       entry_good : (t : Template) → Stood m p.sels (of_template t hook) → BodyFits paths t.body → (s : Found Scope) → GoodPart (lines_in (entry A run p t follow s))
-      entry_good t stood fits (Err fault) f = alone_good m A whole T own p (kind_of t) Error fault refl
+      entry_good t stood fits (Err fault) f = alone_good m A whole T own p (kind_of t) Error fault refl refl
       entry_good t stood fits (Ok inner) f = after (template_made A run p inner t) t stood (template_good t hook p inner fits stood w t.lock refl) f
 
       call_by_good : (s : Scope) (given : List Argument) (o : Option Template) → FoundFits paths o → Stood m p.sels (template_spot hook o) → GoodPart (lines_in (call_by A flow run p s given follow o))
-      call_by_good s given None fits stood f = alone_good m A whole T own p kind.Pod Error note.None refl
+      call_by_good s given None fits stood f = alone_good m A whole T own p kind.Pod Error note.None refl refl
       call_by_good s given (Some t) fits stood f = entry_good t stood fits (template_scope flow s given t.inputs) f
 
       call_good_by : (s : Scope) (n : List ℕ) (given : List Argument) → Stood m p.sels (spot_named m n hook) → GoodPart (lines_in (call_of_template m A flow run p s n given follow))
@@ -193,8 +196,8 @@ module _ (m : Manifest) (A : Answers) (whole : List Line) (T : Tour m A whole) (
     StopGood (Some b) = Good (lines_in b)
 
     stopped_by_good : (p : Place) (k : Kind) (r : Found Bool) → StopGood (stopped_by p k r)
-    stopped_by_good p k (Err fault) = alone_good m A whole T own p k Error fault refl
-    stopped_by_good p k (Ok false) = alone_good m A whole T own p kind.Skipped Skipped note.WhenFalse refl
+    stopped_by_good p k (Err fault) = alone_good m A whole T own p k Error fault refl refl
+    stopped_by_good p k (Ok false) = alone_good m A whole T own p kind.Skipped Skipped note.WhenFalse refl refl
     stopped_by_good p k (Ok true) = tt
 
     stopped_if_good : (p : Place) (k : Kind) (s : Scope) (t : List TagPart) (b : Bool) → StopGood (stopped_if b p k s t)
@@ -243,22 +246,22 @@ module _ (m : Manifest) (A : Answers) (whole : List Line) (T : Tour m A whole) (
       loop_quiet : (ds : List Data) → (loop_of ds).own.finished ≡ true → Every Quiet (lines_in (loop_of ds))
       loop_quiet ds e = (tt, rows_quiet m A whole T own items_laid 0 (items_of ds) (items_quiet 0 (items_of ds) (all_numbered (item_made m A flow run prefix p s c) (λ j x. x.own.finished ≡ true → Every Quiet (lines_in x)) 0 ds (λ j x. one_quiet prefix (item_place p j x) (item_tags x ++ s) c)) (loop_over outputs_of (items_of ds) (all_finished (items_of ds)) e)))
 
-      loop_idle : (ds : List Data) → Idle (top_of ds)
+      loop_idle : (ds : List Data) → Idle whole (top_of ds)
       loop_idle ds = go (all_finished (items_of ds))
         where
-          go : (b : Bool) → Idle (loop_node p outputs_of (items_of ds) b)
-          go true = record { suspended = λ e r. absurd (cc e); pod = λ e r. absurd (cc e); pending = λ r. refl }
-          go false = record { suspended = λ e r. absurd (cc e); pod = λ e r. absurd (cc e); pending = λ r. refl }
+          go : (b : Bool) → Idle whole (loop_node p outputs_of (items_of ds) b)
+          go true = record { suspended = λ e r. absurd (cc e); pod = λ e r. absurd (cc e); pending = λ r. refl; retry = λ e r. absurd (cc e) }
+          go false = record { suspended = λ e r. absurd (cc e); pod = λ e r. absurd (cc e); pending = λ r. refl; retry = λ e r. absurd (cc e) }
 
       loop_good : (ds : List Data) → GoodPart (lines_in (loop_of ds))
       loop_good ds f =
           let ms : List Made = items_of ds in
           let head : Headed p (loop_of ds) = record { at = loop_at paths A m flow run (all_fit m.templates) sound p outputs_of ms (all_finished ms); over = refl } in
-          T.guarded p (loop_of ds) (no_lock m p.sels (of_loop c) (A.granted p.sels ≡ true) stood refl) head (loop_quiet ds) f (λ h. T.stands (top_of ds) (lines_of ms) (loop_idle ds) (rows_good m A whole T own items_laid 0 ms (all_numbered (item_made m A flow run prefix p s c) (λ j y. GoodPart (lines_in y)) 0 ds (λ j x. one_good prefix (item_place p j x) (item_tags x ++ s) c (within_child T.Known p.sels (Item j) w h) (stood_in m p.sels (Item j) (of_loop c) stood))) (part_right whole (Stands (top_of ds) ∷ []) (lines_of ms) f)))
+          T.guarded p (loop_of ds) (no_lock m p.sels (of_loop c) (A.granted p.sels ≡ true) stood refl) head (loop_quiet ds) f (λ h. T.stands (top_of ds) (lines_of ms) (loop_idle ds) (unmemoized m A (top_of ds) (ap (λ (q : Path). memo_at m q.sels) head.at.path ∙ ap memo_of_spot stood.is)) (rows_good m A whole T own items_laid 0 ms (all_numbered (item_made m A flow run prefix p s c) (λ j y. GoodPart (lines_in y)) 0 ds (λ j x. one_good prefix (item_place p j x) (item_tags x ++ s) c (within_child T.Known p.sels (Item j) w h) (stood_in m p.sels (Item j) (of_loop c) stood))) (part_right whole (Stands (top_of ds) ∷ []) (lines_of ms) f)))
 
     looped_good : (prefix : List ℕ) (p : Place) (s : Scope) (c : Call) → Within T.Known p.sels → Stood m p.sels (of_loop c) → (r : Found (List Data)) → GoodPart (lines_in (looped m A flow run prefix p s c r))
-    looped_good prefix p s c w stood (Err fault) f = alone_good m A whole T own p kind.TaskGroup Error fault refl
-    looped_good prefix p s c w stood (Ok []) f = alone_good m A whole T own p kind.Skipped Skipped note.NoItems refl
+    looped_good prefix p s c w stood (Err fault) f = alone_good m A whole T own p kind.TaskGroup Error fault refl refl
+    looped_good prefix p s c w stood (Ok []) f = alone_good m A whole T own p kind.Skipped Skipped note.NoItems refl refl
     looped_good prefix p s c w stood (Ok (d ∷ ds)) f = loop_good prefix p s c w stood (d ∷ ds) f
 
     each_good : (prefix : List ℕ) (p : Place) (s : Scope) (c : Call) → Within T.Known p.sels → (l : Option Loop) → Stood m p.sels (called_spot m c l) → GoodPart (lines_in (each_made m A flow run prefix p s c l))
@@ -274,7 +277,7 @@ module _ (m : Manifest) (A : Answers) (whole : List Line) (T : Tour m A whole) (
   calls_of B flow n = calls m B flow n
 
   calls_good : (flow : Scope) (n : ℕ) → RunGood m A whole T own (calls m A flow n)
-  calls_good flow zero = λ prefix p s c stood w f. alone_good m A whole T own p (kind_named m c.template) Error note.TooDeep refl
+  calls_good flow zero = λ prefix p s c stood w f. alone_good m A whole T own p (kind_named m c.template) Error note.TooDeep refl refl
   calls_good flow (suc n) = call_good flow (calls m A flow n) (calls m (answered A) flow n) (calls_sound paths A m (all_fit m.templates) flow n) (calls_sound paths (answered A) m (all_fit m.templates) flow n) (calls_grew m A (answered A) (answered_more A) flow n) (calls_good flow n)
 
   too_long : (x y : Sel) (r t : Sels) → x ∷ [] ≡ y ∷ (r ++ t) → r ++ t ≡ []
@@ -320,7 +323,7 @@ module _ (m : Manifest) (A : Answers) (T : Tour m A (lines m A)) where
   started_tour (Some l) e f = locked_tour l e (A.granted []) refl f
 
   by_tour : (b : Bool) → GoodLines (lines_by m A b)
-  by_tour false f = T.stands (pending_root m note.None) [] (record { suspended = λ e r. absurd (cc r); pod = λ e r. absurd (cc r); pending = λ r. refl }) T.none
+  by_tour false f = T.stands (pending_root m note.None) [] (record { suspended = λ e r. absurd (cc r); pod = λ e r. absurd (cc r); pending = λ r. refl; retry = λ e r. absurd (cc r) }) (unsucceeded m A (pending_root m note.None) refl) T.none
   by_tour true f = started_tour m.lock refl f
 
   pub tour : T.Good (lines m A)
