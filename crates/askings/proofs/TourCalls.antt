@@ -44,7 +44,7 @@ use Rattle.growth.proofs.Lines.{Every, every_map, IsNode, Fine, Under, Inside, P
 use Rattle.growth.proofs.Keeping.{not_both, Grew}
 use Rattle.growth.proofs.OnePath.{paths, all_fit}
 use Rattle.growth.proofs.SoundBodies.{items_laid, Sound}
-use Rattle.growth.proofs.SoundCalls.{BodyFits, FoundFits, named_fits, memo_topped, loop_at, one_called, calls_sound}
+use Rattle.growth.proofs.SoundCalls.{TemplateFits, FoundFits, named_fits, memo_topped, loop_at, one_called, calls_sound}
 use Rattle.growth.proofs.GrowingBodies.{Growing}
 use Rattle.growth.proofs.GrowingCalls.{any_behind, memo_grew, one_grew, calls_grew}
 use Rattle.growth.proofs.GrowingTrees.{answered, answered_more, only_save}
@@ -144,25 +144,25 @@ module _ (m : Manifest) (A : Answers) (whole : List Line) (T : Tour m A whole) (
       memoized p s = memo_made A run p s t t.memoize
 
       -- once its node is fulfilled it asks for nothing but saves
-      memo_quiet : (p : Place) (s : Scope) → BodyFits paths t.body → (memoized p s).own.finished ≡ true → Every Quiet (lines_in (memoized p s))
+      memo_quiet : (p : Place) (s : Scope) → TemplateFits paths t → (memoized p s).own.finished ≡ true → Every Quiet (lines_in (memoized p s))
       memo_quiet p s fits = grown_quiet (Inside p.sels) (memoized p s) (memo_made (answered A) ran p s t t.memoize) (memo_grew m A (answered A) (answered_more A) flow run ran sound sounds grows t fits p s t.memoize (fair (Inside p.sels) (lines_in (memoized p s)))) (memo_topped paths (answered A) m flow ran (all_fit m.templates) sounds t fits p s t.memoize).proper
 
       -- behind its lock
-      behind_good : (p : Place) (s : Scope) → BodyFits paths t.body → Stood m p.sels (of_template t hook) → Within T.Known p.sels → LockGranted m A p.sels → GoodPart (lines_in (memoized p s))
+      behind_good : (p : Place) (s : Scope) → TemplateFits paths t → Stood m p.sels (of_template t hook) → Within T.Known p.sels → LockGranted m A p.sels → GoodPart (lines_in (memoized p s))
       behind_good p s fits stood w g f = T.guarded p (memoized p s) g (topped_headed A p (memoized p s) (memo_topped paths A m flow run (all_fit m.templates) sound t fits p s t.memoize)) (memo_quiet p s fits) f (λ k. memo_good p s (record { stood = stood; within = w; here = k }) t.memoize refl f)
 
-      locked_good : (p : Place) (s : Scope) → BodyFits paths t.body → Stood m p.sels (of_template t hook) → Within T.Known p.sels → (l : LockId) → t.lock ≡ Some l → (b : Bool) → A.granted p.sels ≡ b → GoodPart (lines_in (locked A run p s t l b))
+      locked_good : (p : Place) (s : Scope) → TemplateFits paths t → Stood m p.sels (of_template t hook) → Within T.Known p.sels → (l : LockId) → t.lock ≡ Some l → (b : Bool) → A.granted p.sels ≡ b → GoodPart (lines_in (locked A run p s t l b))
       locked_good p s fits stood w l e false g f = T.lock p (kind_of t) l (stood_not_empty m p.sels (of_template t hook) stood) (stood_lock m p.sels (of_template t hook) stood ∙ e) f
       locked_good p s fits stood w l e true g f = behind_good p s fits stood w (λ x c. g) f
 
-      template_good : (p : Place) (s : Scope) → BodyFits paths t.body → Stood m p.sels (of_template t hook) → Within T.Known p.sels → (o : Option LockId) → t.lock ≡ o → GoodPart (lines_in (template_by A run p s t o))
+      template_good : (p : Place) (s : Scope) → TemplateFits paths t → Stood m p.sels (of_template t hook) → Within T.Known p.sels → (o : Option LockId) → t.lock ≡ o → GoodPart (lines_in (template_by A run p s t o))
       template_good p s fits stood w None e f = behind_good p s fits stood w (no_lock m p.sels (of_template t hook) (A.granted p.sels ≡ true) stood e) f
       template_good p s fits stood w (Some l) e f = locked_good p s fits stood w l e (A.granted p.sels) refl f
 
     -- ---- a call of a template, whatever follows it
 
     module _ (p : Place) (hook : Option Hook) (w : Within T.Known p.sels) (follow : Made → Made) (after : (b : Made) (t : Template) → Stood m p.sels (of_template t hook) → GoodPart (lines_in b) → GoodPart (lines_in (follow b))) where
-      entry_good : (t : Template) → Stood m p.sels (of_template t hook) → BodyFits paths t.body → (s : Found Scope) → GoodPart (lines_in (entry A run p t follow s))
+      entry_good : (t : Template) → Stood m p.sels (of_template t hook) → TemplateFits paths t → (s : Found Scope) → GoodPart (lines_in (entry A run p t follow s))
       entry_good t stood fits (Err fault) f = alone_good m A whole T own p (kind_of t) Error fault refl refl
       entry_good t stood fits (Ok inner) f = after (template_made A run p inner t) t stood (template_good t hook p inner fits stood w t.lock refl) f
 

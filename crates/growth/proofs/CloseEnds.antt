@@ -1,7 +1,7 @@
 -- A loop that closes a journal ends, or passes the bound on the nodes.
-use Rattle.std.proofs.Common.{◌≡◌, refl, sym, ◌∙◌, ap, subst, ◌⊎◌, ◌+◌, ◌≤◌, ◌<◌, arith, length}
+use Rattle.std.proofs.Common.{◌≡◌, refl, ◌∙◌, ap, ◌⊎◌, ◌+◌, ◌≤◌, ◌<◌, arith, length}
 use Rattle.std.proofs.Math.Logic.{inl, inr}
-use Rattle.std.specs.Prelude.{ℕ, zero, suc, List, [], ◌∷◌, ◌++◌}
+use Rattle.std.specs.Prelude.{ℕ, zero, suc, List, [], ◌∷◌}
 use Rattle.std.proofs.lemmas.List.{length-append}
 use Rattle.tree_types.specs.declared.path.Path.{Path}
 use Rattle.tree_types.specs.declared.fact.Fact.TheVariants.{Begun}

@@ -1,13 +1,13 @@
 -- Where the tasks of a DAG have a rank, a list that solves its equations is its standings: after k rounds each task stands
 -- as by the list that fewer than k tasks rank below.
-use Rattle.std.proofs.Common.{◌≡◌, refl, sym, ◌∙◌, ap, subst, ◌⊎◌, ◌+◌, ◌≤◌, ◌<◌, arith, length}
+use Rattle.std.proofs.Common.{◌≡◌, refl, sym, ◌∙◌, ap, subst, ◌⊎◌, ◌≤◌, ◌<◌, arith, length}
 use Rattle.std.proofs.Math.Logic.{inl, inr}
 use Rattle.std.proofs.lemmas.Bool.{le-ltb, ltb-true, ltb-false}
 use Rattle.std.proofs.lemmas.Slice.Eq.{bytes_eq-Decides}
 use Rattle.std.proofs.lemmas.List.Elements.{recursion_from_All}
 use Rattle.std.specs.Prelude.{ℕ, zero, suc, List, [], ◌∷◌, ◌++◌, Bool, true, false, cond, Option, Some, None, nat_lt, bytes_eq}
 use Rattle.std.specs.List.{All, AllByRecursion}
-use Rattle.depends_expr.specs.Expression.{Word, failed, errored, Expression, bare, has, both}
+use Rattle.depends_expr.specs.Expression.{Word, failed, errored, Expression, bare, both}
 use Rattle.depends_expr.specs.Truth.{named}
 use Rattle.wf_manifest.specs.declared.calls.Task.{Task}
 use Rattle.wf_manifest.specs.declared.calls.Dag.{Dag}

@@ -1,7 +1,7 @@
 -- A workflow that is over keeps its tree in longer lawful journals.
 use Rattle.std.proofs.Common.{◌≡◌, refl, subst, ◌⊎◌}
 use Rattle.std.proofs.Math.Logic.{inl, inr}
-use Rattle.std.specs.Prelude.{List, [], ◌∷◌, ◌++◌, Bool, true, false}
+use Rattle.std.specs.Prelude.{List, ◌∷◌, ◌++◌, Bool, true, false}
 use Rattle.tree_types.specs.declared.path.Path.{Path}
 use Rattle.tree_types.specs.declared.fact.Fact.{Fact}
 use Rattle.tree_types.specs.declared.fact.Fact.TheVariants.{Started, Begun}
