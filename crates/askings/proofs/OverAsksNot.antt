@@ -75,10 +75,10 @@ module _ (m : Manifest) (A : Answers) (whole : List Line) where
     lock = λ p k l x e f. (tt, (tt, tt));
     look = λ p k c key e f. (tt, (tt, tt));
     arming = λ p a e f. (tt, (tt, tt));
-    timer = λ p sc duration armed seconds a e d r f. (tt, (tt, tt));
+    timer = λ p sc duration armed seconds own a e d r f. (tt, (tt, tt));
     resting = λ p armed a e d. (tt, tt);
     retry = λ p last tick ls x d t g f. (tt, every_append Kept ls (Asks (want.Timer _ tick) ∷ []) g (tt, tt));
-    save = λ n p o c sc key ls r e x s y g f. (tt, (tt, g));
+    save = λ n p o c sc key ls own r e x s y g f. (tt, (tt, g));
     root = λ l e f. (tt, (tt, tt));
     own = λ e. tt;
     guarded = λ p b e t q f h. guarded_kept p b t q f h (fulfilled b.own.node.phase) refl;

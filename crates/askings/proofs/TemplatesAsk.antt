@@ -34,9 +34,9 @@ module _ (m : Manifest) (A : Answers) (ns : List Node) where
   -- more may be asked for
   served_more : (ws vs : List Want) (n : Node) → ((w : Want) → Among w ws → Among w vs) → Served ws n → Served vs n
   served_more ws vs n f h = record {
-    timer = λ duration armed k r d e. (let x = h.timer duration armed k r d e in record { scope = x.scope; seconds = x.seconds; read = x.read; asked = f (want.Timer n.path (later armed x.seconds)) x.asked });
+    timer = λ duration armed k r d e. (let x = h.timer duration armed k r d e in record { scope = x.scope; is_scope = x.is_scope; seconds = x.seconds; read = x.read; asked = f (want.Timer n.path (later armed x.seconds)) x.asked });
     next = λ k r none. (let x = h.next k r none in record { last = x.last; stands = x.stands; tick = x.tick; due = x.due; asked = f (want.Timer (path (n.path.sels ++ Attempt (suc x.last) ∷ [])) x.tick) x.asked });
-    save = λ c s e q. (let x = h.save c s e q in record { scope = x.scope; key = x.key; read = x.read; asked = f (want.Save n.path c.cache x.key n.outputs) x.asked });
+    save = λ c s e q. (let x = h.save c s e q in record { scope = x.scope; is_scope = x.is_scope; key = x.key; read = x.read; asked = f (want.Save n.path c.cache x.key n.outputs) x.asked });
   }
 
   abbrev ServedIn : List Want → Line → Type 0
@@ -96,7 +96,7 @@ module _ (m : Manifest) (A : Answers) (whole : List Line) where
   retry_node p = node p kind.Retry Running note.None no_outputs
 
   -- a suspended node, whose timer is asked for where it is armed and has a duration
-  suspended_served : (ws : List Want) (p : Place) → ((duration : List Part) (armed : ℕ) → duration_at m p.sels ≡ Some duration → A.armed p.sels ≡ Some armed → AsksTimer ws (suspended_node p) duration armed) → ServedHere ws (suspended_node p)
+  suspended_served : (ws : List Want) (p : Place) → ((duration : List Part) (armed : ℕ) → duration_at m p.sels ≡ Some duration → A.armed p.sels ≡ Some armed → AsksTimer m A ws (suspended_node p) duration armed) → ServedHere ws (suspended_node p)
   suspended_served ws p f = record {
     timer = λ duration armed k r d e. f duration armed d e;
     next = λ k r none. absurd (cc k);
@@ -110,14 +110,14 @@ module _ (m : Manifest) (A : Answers) (whole : List Line) where
     save = λ c s x q. absurd (cc s);
   }
 
-  saved_served : (ws : List Want) (n : Node) (p : Sels) (c : Memoize) → n.path ≡ path p → n.phase ≡ Succeeded → memo_at m p ≡ Some c → AsksSave ws n c → ServedHere ws n
+  saved_served : (ws : List Want) (n : Node) (p : Sels) (c : Memoize) → n.path ≡ path p → n.phase ≡ Succeeded → memo_at m p ≡ Some c → AsksSave m A ws n c → ServedHere ws n
   saved_served ws n p c e s y x = record {
     timer = λ duration armed k r d z. absurd (cc (s, r));
     next = λ k r none. absurd (cc (s, r));
     save = λ d _ z q. (
         let there : memo_at m p ≡ Some d = ap (λ (t : Path). memo_at m t.sels) (sym e) ∙ z in
         let same : c ≡ d = cc (y, there) in
-        subst (AsksSave ws n) same x);
+        subst (AsksSave m A ws n) same x);
   }
 
   serves : Tour m A whole
@@ -132,13 +132,13 @@ module _ (m : Manifest) (A : Answers) (whole : List Line) where
     lock = λ p k l x e f. (pending_served m A (nodes_in whole) (want.Lock (path p.sels) l ∷ []) (node p k Pending (note.Waiting l) no_outputs) refl, (tt, tt));
     look = λ p k c key e f. (pending_served m A (nodes_in whole) (want.LookUp (path p.sels) c.cache key c.max_age ∷ []) (node p k Pending (note.Looking c.cache) no_outputs) refl, (tt, tt));
     arming = λ p a e f. (suspended_served (want.Arming (path p.sels) ∷ []) p (λ duration armed d x. absurd (cc (e, x))), (tt, tt));
-    timer = λ p sc duration armed seconds a e d r f. (
+    timer = λ p sc duration armed seconds own a e d r f. (
         let ws : List Want = want.Timer (path p.sels) (later armed seconds) ∷ [] in
-        let own : AsksTimer ws (suspended_node p) duration armed = record { scope = sc; seconds = seconds; read = r; asked = inl refl } in (
+        let here : AsksTimer m A ws (suspended_node p) duration armed = record { scope = sc; is_scope = own; seconds = seconds; read = r; asked = inl refl } in (
           suspended_served ws p (λ other tick y z. (
               let text : duration ≡ other = cc (d, y) in
               let when : armed ≡ tick = cc (e, z) in
-              subst (λ (t : ℕ). AsksTimer ws (suspended_node p) other t) when (subst (λ (t : List Part). AsksTimer ws (suspended_node p) t armed) text own))),
+              subst (λ (t : ℕ). AsksTimer m A ws (suspended_node p) other t) when (subst (λ (t : List Part). AsksTimer m A ws (suspended_node p) t armed) text here))),
           (tt, tt),
         ));
     resting = λ p armed a e d. (suspended_served [] p (λ duration tick x y. absurd (cc (d, x))), tt);
@@ -147,10 +147,10 @@ module _ (m : Manifest) (A : Answers) (whole : List Line) where
         let ks : List Line = Asks w ∷ [] in
         let asks : Among w (wants_in (ls ++ ks)) = among_right w ls ks (inl refl) in
         (retry_served (wants_in (ls ++ ks)) p (record { last = last; stands = x; tick = tick; due = d; asked = asks }), good_both m A (nodes_in whole) ls ks g (tt, tt)));
-    save = λ n p o c sc key ls r e x s y g f. (
+    save = λ n p o c sc key ls own r e x s y g f. (
         let w : Want = want.Save (path p) c.cache key o in
         let asks : Among (want.Save n.path c.cache key n.outputs) (w ∷ wants_in ls) = inl (λ i. want.Save (sym e i) c.cache key (sym x i)) in
-        (saved_served (w ∷ wants_in ls) n p c e s y (record { scope = sc; key = key; read = r; asked = asks }), (tt, all_more m A (nodes_in whole) (wants_in ls) (w ∷ wants_in ls) ls (λ v a. inr a) g)));
+        (saved_served (w ∷ wants_in ls) n p c e s y (record { scope = sc; is_scope = own; key = key; read = r; asked = asks }), (tt, all_more m A (nodes_in whole) (wants_in ls) (w ∷ wants_in ls) ls (λ v a. inr a) g)));
     root = λ l e f. (pending_served m A (nodes_in whole) (want.Lock (path []) l ∷ []) (pending_root m (note.Waiting l)) refl, (tt, tt));
     own = λ e. tt;
     guarded = λ p b e t q f h. h tt;

@@ -52,7 +52,7 @@ use Rattle.growth.proofs.SoundBodies.{members_laid, tasks_laid, standing_lines, 
 use Rattle.growth.proofs.GrowingBodies.{finished_group}
 use Rattle.growth.proofs.GrowingTrees.{among_nodes}
 use Rattle.askings.specs.Owners.{is_attempt, memo_of_spot, memo_at}
-use Rattle.askings.specs.ByTemplate.{duration_in, duration_of_spot, duration_at, retry_of_spot, AttemptStands, NextDue}
+use Rattle.askings.specs.ByTemplate.{duration_in, duration_of_spot, duration_at, retry_of_spot, AttemptStands, NextDue, IsTemplateScope}
 use Rattle.askings.proofs.Walks.{PlacedIn, positions, Stood, stood_in, stood_as, stood_not_attempt, inside_not_exit, inside_attempt, no_lock, Within, within_child, all_guarded}
 use Rattle.askings.proofs.Tours.{Part, part_left, part_right, Quiet, Idle, over_idle, Unsaved, unsucceeded, unmemoized, Trial, Headed, made_headed, Tour}
 use Rattle.meaning.proofs.Flattening.{lines_tried}
@@ -342,7 +342,7 @@ module _ (m : Manifest) (A : Answers) (whole : List Line) (T : Tour m A whole) (
 
   -- ---- suspended nodes
 
-  module _ (p : Place) (s : Scope) (ds : List OutputDecl) (t : Template) (hook : Option Hook) (a : Placed p hook t) where
+  module _ (p : Place) (s : Scope) (ds : List OutputDecl) (t : Template) (hook : Option Hook) (a : Placed p hook t) (k : IsTemplateScope m A s) where
     abbrev running : Node
     running = node p kind.Suspend Running note.None no_outputs
 
@@ -366,7 +366,7 @@ module _ (m : Manifest) (A : Answers) (whole : List Line) (T : Tour m A whole) (
     run_good None d None (Some armed) q e f = open_good p running [] nothing run_at refl (T.resting p armed not_attempt e d)
     run_good (Some duration) d None (Some armed) q e f = absurd (no_seconds (said s duration) q)
     run_good None d (Some n) (Some armed) q e f = absurd (cc q)
-    run_good (Some duration) d (Some n) (Some armed) q e f = open_good p running _ nothing run_at refl (T.timer p s duration armed n not_attempt e d q f)
+    run_good (Some duration) d (Some n) (Some armed) q e f = open_good p running _ nothing run_at refl (T.timer p s duration armed n k not_attempt e d q f)
 
     module _ (o : Option (List TagPart)) (is : t.body ≡ body.Suspend o) where
       lasts : duration_at m p.sels ≡ o

@@ -33,7 +33,7 @@ use Rattle.growth.proofs.Lines.{Every, Any, any_left, any_right, IsNode}
 use Rattle.growth.proofs.OnePath.{paths}
 use Rattle.growth.proofs.SoundBodies.{Topped}
 use Rattle.askings.specs.Owners.{is_attempt, memo_at}
-use Rattle.askings.specs.ByTemplate.{duration_at, AttemptStands, AttemptRuns, NextDue}
+use Rattle.askings.specs.ByTemplate.{duration_at, IsTemplateScope, AttemptStands, AttemptRuns, NextDue}
 use Rattle.askings.proofs.Walks.{Guarded}
 
 -- the nodes of these lines stand in those
@@ -121,10 +121,10 @@ pub record Tour (m : Manifest) (A : Answers) (whole : List Line) : Type 1 where
   pub lock : (p : Place) (k : Kind) (l : LockId) → (p.sels ≡ [] → ⊥) → lock_at m p.sels ≡ Some l → let n : Node = node p k Pending (note.Waiting l) no_outputs in let w : Want = want.Lock (path p.sels) l in Part whole (asking n w) → Good (asking n w)
   pub look : (p : Place) (k : Kind) (c : Memoize) (key : List ℕ) → memo_at m p.sels ≡ Some c → let n : Node = node p k Pending (note.Looking c.cache) no_outputs in let w : Want = want.LookUp (path p.sels) c.cache key c.max_age in Part whole (asking n w) → Good (asking n w)
   pub arming : (p : Place) → is_attempt p.sels ≡ false → A.armed p.sels ≡ None → let n : Node = node p kind.Suspend Running note.None no_outputs in let w : Want = want.Arming (path p.sels) in Part whole (asking n w) → Good (asking n w)
-  pub timer : (p : Place) (s : Scope) (duration : List TagPart) (armed seconds : ℕ) → is_attempt p.sels ≡ false → A.armed p.sels ≡ Some armed → duration_at m p.sels ≡ Some duration → seconds_of s (Some duration) ≡ Ok (Some seconds) → let n : Node = node p kind.Suspend Running note.None no_outputs in let w : Want = want.Timer (path p.sels) (later armed seconds) in Part whole (asking n w) → Good (asking n w)
+  pub timer : (p : Place) (s : Scope) (duration : List TagPart) (armed seconds : ℕ) → IsTemplateScope m A s → is_attempt p.sels ≡ false → A.armed p.sels ≡ Some armed → duration_at m p.sels ≡ Some duration → seconds_of s (Some duration) ≡ Ok (Some seconds) → let n : Node = node p kind.Suspend Running note.None no_outputs in let w : Want = want.Timer (path p.sels) (later armed seconds) in Part whole (asking n w) → Good (asking n w)
   pub resting : (p : Place) (armed : ℕ) → is_attempt p.sels ≡ false → A.armed p.sels ≡ Some armed → duration_at m p.sels ≡ None → Good (Stands (node p kind.Suspend Running note.None no_outputs) ∷ [])
   pub retry : (p : Place) (last tick : ℕ) (ls : List Line) → let n : Node = node p kind.Retry Running note.None no_outputs in let w : Want = want.Timer (path (p.sels ++ Attempt (suc last) ∷ [])) tick in AttemptStands (nodes_in whole) n last → NextDue m A n last tick → Every Trial ls → Good ls → Part whole (Stands n ∷ (ls ++ Asks w ∷ [])) → Good (Stands n ∷ (ls ++ Asks w ∷ []))
-  pub save : (n : Node) (p : Sels) (o : Outputs) (c : Memoize) (s : Scope) (key : List ℕ) (ls : List Line) → said s c.key ≡ Ok key → n.path ≡ path p → n.outputs ≡ o → n.phase ≡ Succeeded → memo_at m p ≡ Some c → Good ls → Part whole (Stands n ∷ ls) → Good (Stands n ∷ Asks (want.Save (path p) c.cache key o) ∷ ls)
+  pub save : (n : Node) (p : Sels) (o : Outputs) (c : Memoize) (s : Scope) (key : List ℕ) (ls : List Line) → IsTemplateScope m A s → said s c.key ≡ Ok key → n.path ≡ path p → n.outputs ≡ o → n.phase ≡ Succeeded → memo_at m p ≡ Some c → Good ls → Part whole (Stands n ∷ ls) → Good (Stands n ∷ Asks (want.Save (path p) c.cache key o) ∷ ls)
   -- the workflow's own lock
   pub root : (l : LockId) → m.lock ≡ Some l → let n : Node = pending_root m (note.Waiting l) in let w : Want = want.Lock (path []) l in Part whole (asking n w) → Good (asking n w)
   pub own : LockGranted m A [] → Known []
