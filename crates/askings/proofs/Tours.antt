@@ -1,7 +1,7 @@
 -- A tour of a tree: what holds of the lines of a whole tree, if it holds of what a node asks for, of lines side by side,
 -- and of the lines of a node and below it.
 use Rattle.std.proofs.Common.{◌≡◌, refl, ap}
-use Rattle.std.specs.Prelude.{ℕ, List, [], ◌∷◌, ◌++◌, true, false, Some, None}
+use Rattle.std.specs.Prelude.{ℕ, suc, List, [], ◌∷◌, ◌++◌, true, false, Some, None, Ok}
 use Rattle.tree_types.specs.declared.path.Path.{Path}
 use Rattle.tree_types.specs.declared.path.Sel.TheVariants.{Attempt}
 use Rattle.tree_types.specs.declared.path.LockId.{LockId}
@@ -12,7 +12,8 @@ use Rattle.tree_types.specs.declared.node.Note.TheVariants as note
 use Rattle.tree_types.specs.declared.node.Node.{Node}
 use Rattle.tree_types.specs.declared.outcome.Outputs.{Outputs}
 use Rattle.tree_types.specs.declared.want.Want.{Want}
-use Rattle.tree_types.specs.Phases.{fulfilled}
+use Rattle.tree_types.specs.Phases.{fulfilled, is_succeeded}
+use Rattle.tag_text.specs.declared.part.Part.{Part as TagPart}
 use Rattle.tree_types.specs.declared.want.Want.TheVariants as want
 use Rattle.wf_manifest.specs.declared.templates.Memoize.{Memoize}
 use Rattle.wf_manifest.specs.declared.manifest.Manifest.{Manifest}
@@ -20,16 +21,19 @@ use Rattle.meaning.specs.declared.lines.Place.{Place}
 use Rattle.meaning.specs.declared.lines.Line.{Line}
 use Rattle.meaning.specs.declared.lines.Line.TheVariants.{Stands, Asks, MayBegin}
 use Rattle.meaning.specs.Answers.{path, Sels, Answers}
-use Rattle.meaning.specs.Lines.{Made, lines_in, no_outputs, node, made, Parts}
+use Rattle.scopes.specs.Substitution.{Scope, said}
+use Rattle.meaning.specs.Lines.{later, Made, lines_in, no_outputs, node, made, Parts}
 use Rattle.meaning.specs.Pods.{running_pod}
+use Rattle.meaning.specs.Suspends.{seconds_of}
 use Rattle.meaning.specs.Guards.{lock_at}
-use Rattle.meaning.specs.Trees.{pending_root}
+use Rattle.meaning.specs.Trees.{pending_root, nodes_in}
 use Rattle.growth.specs.Growth.{IsSave}
 use Rattle.growth.proofs.Keeping.{not_both, At}
 use Rattle.growth.proofs.Lines.{Every, Any, any_left, any_right, IsNode}
 use Rattle.growth.proofs.OnePath.{paths}
 use Rattle.growth.proofs.SoundBodies.{Topped}
 use Rattle.askings.specs.Owners.{is_attempt, memo_at}
+use Rattle.askings.specs.ByTemplate.{duration_at, IsTemplateScope, AttemptStands, AttemptRuns, NextDue}
 use Rattle.askings.proofs.Walks.{Guarded}
 
 -- the nodes of these lines stand in those
@@ -47,19 +51,33 @@ abbrev pub Quiet : Line → Type 0
 Quiet (Asks w) = IsSave w
 Quiet _ = Unit {0}
 
--- a node that waits for nothing itself
-pub record Idle (n : Node) : Type 0 where
+-- a node that waits for nothing itself, but for an attempt that runs
+pub record Idle (whole : List Line) (n : Node) : Type 0 where
   pub suspended : n.kind ≡ kind.Suspend → n.phase ≡ Running → ⊥
   pub pod : n.kind ≡ kind.Pod → n.phase ≡ Running → ⊥
   pub pending : n.phase ≡ Pending → n.note ≡ note.None
+  pub retry : n.kind ≡ kind.Retry → n.phase ≡ Running → AttemptRuns (nodes_in whole) n
 
 -- so is one that is fulfilled
-pub over_idle : (n : Node) → fulfilled n.phase ≡ true → Idle n
-over_idle n e = record {
+pub over_idle : (whole : List Line) (n : Node) → fulfilled n.phase ≡ true → Idle whole n
+over_idle whole n e = record {
   suspended = λ k r. not_both (fulfilled n.phase) e (ap fulfilled r);
   pod = λ k r. not_both (fulfilled n.phase) e (ap fulfilled r);
   pending = λ r. not_both (fulfilled n.phase) e (ap fulfilled r);
+  retry = λ k r. not_both (fulfilled n.phase) e (ap fulfilled r);
 }
+
+-- this node needs no save
+abbrev pub Unsaved : Manifest → Answers → Node → Type 0
+Unsaved m A n = (c : Memoize) → n.phase ≡ Succeeded → memo_at m n.path.sels ≡ Some c → A.memo n.path.sels ≡ Some None → ⊥
+
+-- so it is where it is not Succeeded
+pub unsucceeded : (m : Manifest) (A : Answers) (n : Node) → is_succeeded n.phase ≡ false → Unsaved m A n
+unsucceeded m A n e c s x y = not_both (is_succeeded n.phase) (ap is_succeeded s) e
+
+-- and where what stands at its path is not memoized
+pub unmemoized : (m : Manifest) (A : Answers) (n : Node) → memo_at m n.path.sels ≡ None → Unsaved m A n
+unmemoized m A n e c s x y = absurd (cc (e, x))
 
 -- lines of attempts
 abbrev pub IsPod : Want → Type 0
@@ -97,16 +115,16 @@ pub record Tour (m : Manifest) (A : Answers) (whole : List Line) : Type 1 where
   pub none : Good []
   pub both : (ls ks : List Line) → Good ls → Good ks → Good (ls ++ ks)
   pub begins : (p : Path) → Good (MayBegin p ∷ [])
-  pub stands : (n : Node) (ls : List Line) → Idle n → Good ls → Good (Stands n ∷ ls)
+  pub stands : (n : Node) (ls : List Line) → Idle whole n → Unsaved m A n → Good ls → Good (Stands n ∷ ls)
   -- what a node asks for
   pub pod : (p : Place) → A.outcome p ≡ None → Guarded Known p.sels → Part whole (lines_in (running_pod p)) → Good (lines_in (running_pod p))
   pub lock : (p : Place) (k : Kind) (l : LockId) → (p.sels ≡ [] → ⊥) → lock_at m p.sels ≡ Some l → let n : Node = node p k Pending (note.Waiting l) no_outputs in let w : Want = want.Lock (path p.sels) l in Part whole (asking n w) → Good (asking n w)
   pub look : (p : Place) (k : Kind) (c : Memoize) (key : List ℕ) → memo_at m p.sels ≡ Some c → let n : Node = node p k Pending (note.Looking c.cache) no_outputs in let w : Want = want.LookUp (path p.sels) c.cache key c.max_age in Part whole (asking n w) → Good (asking n w)
-  pub arming : (p : Place) → is_attempt p.sels ≡ false → let n : Node = node p kind.Suspend Running note.None no_outputs in let w : Want = want.Arming (path p.sels) in Part whole (asking n w) → Good (asking n w)
-  pub timer : (p : Place) (armed tick : ℕ) → is_attempt p.sels ≡ false → A.armed p.sels ≡ Some armed → let n : Node = node p kind.Suspend Running note.None no_outputs in let w : Want = want.Timer (path p.sels) tick in Part whole (asking n w) → Good (asking n w)
-  pub resting : (p : Place) (armed : ℕ) → is_attempt p.sels ≡ false → A.armed p.sels ≡ Some armed → Good (Stands (node p kind.Suspend Running note.None no_outputs) ∷ [])
-  pub retry : (p : Place) (k tick : ℕ) (ls : List Line) → let n : Node = node p kind.Retry Running note.None no_outputs in let w : Want = want.Timer (path (p.sels ++ Attempt k ∷ [])) tick in Every Trial ls → Good ls → Part whole (Stands n ∷ (ls ++ Asks w ∷ [])) → Good (Stands n ∷ (ls ++ Asks w ∷ []))
-  pub save : (n : Node) (p : Sels) (o : Outputs) (c : Memoize) (key : List ℕ) (ls : List Line) → n.path ≡ path p → n.outputs ≡ o → n.phase ≡ Succeeded → memo_at m p ≡ Some c → Good ls → Part whole (Stands n ∷ ls) → Good (Stands n ∷ Asks (want.Save (path p) c.cache key o) ∷ ls)
+  pub arming : (p : Place) → is_attempt p.sels ≡ false → A.armed p.sels ≡ None → let n : Node = node p kind.Suspend Running note.None no_outputs in let w : Want = want.Arming (path p.sels) in Part whole (asking n w) → Good (asking n w)
+  pub timer : (p : Place) (s : Scope) (duration : List TagPart) (armed seconds : ℕ) → IsTemplateScope m A s → is_attempt p.sels ≡ false → A.armed p.sels ≡ Some armed → duration_at m p.sels ≡ Some duration → seconds_of s (Some duration) ≡ Ok (Some seconds) → let n : Node = node p kind.Suspend Running note.None no_outputs in let w : Want = want.Timer (path p.sels) (later armed seconds) in Part whole (asking n w) → Good (asking n w)
+  pub resting : (p : Place) (armed : ℕ) → is_attempt p.sels ≡ false → A.armed p.sels ≡ Some armed → duration_at m p.sels ≡ None → Good (Stands (node p kind.Suspend Running note.None no_outputs) ∷ [])
+  pub retry : (p : Place) (last tick : ℕ) (ls : List Line) → let n : Node = node p kind.Retry Running note.None no_outputs in let w : Want = want.Timer (path (p.sels ++ Attempt (suc last) ∷ [])) tick in AttemptStands (nodes_in whole) n last → NextDue m A n last tick → Every Trial ls → Good ls → Part whole (Stands n ∷ (ls ++ Asks w ∷ [])) → Good (Stands n ∷ (ls ++ Asks w ∷ []))
+  pub save : (n : Node) (p : Sels) (o : Outputs) (c : Memoize) (s : Scope) (key : List ℕ) (ls : List Line) → IsTemplateScope m A s → said s c.key ≡ Ok key → n.path ≡ path p → n.outputs ≡ o → n.phase ≡ Succeeded → memo_at m p ≡ Some c → Good ls → Part whole (Stands n ∷ ls) → Good (Stands n ∷ Asks (want.Save (path p) c.cache key o) ∷ ls)
   -- the workflow's own lock
   pub root : (l : LockId) → m.lock ≡ Some l → let n : Node = pending_root m (note.Waiting l) in let w : Want = want.Lock (path []) l in Part whole (asking n w) → Good (asking n w)
   pub own : LockGranted m A [] → Known []

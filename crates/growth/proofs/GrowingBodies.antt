@@ -32,7 +32,7 @@ use Rattle.growth.specs.Growth.{SaysMore, New}
 use Rattle.growth.proofs.Numbered.{Pairs, pairs_from, pairs_same}
 use Rattle.growth.proofs.Lines.{Any, IsWant, any_right, from_under, Begins, Holds, past_wants, one_of, Proper, Under, Inside, AtChild, From, Fair, fair_child, fair_rest, fair_below, fair_map, from_inside, rows_fair, under_at_child}
 use Rattle.growth.proofs.Keeping.{not_both, AllKept, Later, Grew, Begun, all_left, all_right, all_append, all_beside, all_same, same_top, unchanged, begun_beside, begun_below, begun_nothing, rows_kept, rows_begun, At, node_at, ending_ends, same_place, open_follows, made_later}
-use Rattle.growth.proofs.OnePath.{paths}
+use Rattle.growth.proofs.OnePath.{paths, groups_fit, attempts_fit}
 use Rattle.growth.proofs.SoundBodies.{group_at, step_at, group_ways, step_ways, members_laid, StepsFit, Topped, pod_proper, retry_at, retry_proper, suspend_topped, Sound, at_child, members_proper, group_called, groups_sound}
 use Rattle.meaning.proofs.Flattening.{lines_tried}
 
@@ -171,7 +171,7 @@ module _ (A B : Answers) (g : SaysMore A B) where
         }
 
     pub retry_grew : Grew A B (retry_made A p ds r) (retry_made B p ds r)
-    retry_grew = record { later = retry_by_later (attempts A p ds r) (attempts B p ds r) (tries_later (further r) 0 None); begun = begun_nothing (New A B) A (lines_in (retry_made A p ds r)) (lines_in (retry_made B p ds r)) (retry_proper paths A p ds r) }
+    retry_grew = record { later = retry_by_later (attempts A p ds r) (attempts B p ds r) (tries_later (further r) 0 None); begun = begun_nothing (New A B) A (lines_in (retry_made A p ds r)) (lines_in (retry_made B p ds r)) (retry_proper paths A p ds r (attempts_fit r)) }
 
   -- ---- suspended nodes
 
@@ -342,7 +342,7 @@ module _ (A B : Answers) (run ran : Caller) (sound : Sound paths A run) (grows :
 
   groups_grew : (p : Place) (i : ℕ) (s : Scope) (gs : List (List Call)) → StepsFit paths gs → Fair (New A B) (From group_at p.sels i) (lines_of (groups_from run p i s gs).all) → GroupsGrew A B (groups_from run p i s gs) (groups_from ran p i s gs)
   groups_grew p i s [] k f = record { done = λ _. refl; kept = tt; begun = λ q n h. absurd h }
-  groups_grew p i s (cs ∷ gs) k f = chosen p i s cs (λ inner. groups_from run p (suc i) inner gs) (λ inner. groups_from ran p (suc i) inner gs) (λ inner. (groups_sound paths A run sound p (suc i) inner gs k.1).proper) (λ inner. groups_grew p (suc i) inner gs k.1) (group_called paths A run sound (group_place p i) s cs k.0).proper _ _ refl refl f
+  groups_grew p i s (cs ∷ gs) k f = chosen p i s cs (λ inner. groups_from run p (suc i) inner gs) (λ inner. groups_from ran p (suc i) inner gs) (λ inner. (groups_sound paths A run sound p (suc i) inner gs k.1 (groups_fit (suc i) gs)).proper) (λ inner. groups_grew p (suc i) inner gs k.1) (group_called paths A run sound (group_place p i) s cs k.0).proper _ _ refl refl f
 
   -- ---- a steps node
 

@@ -39,7 +39,7 @@ use Rattle.growth.proofs.Lines.{behind_first, Any, IsNode, IsWant, IsAt, Begins,
 use Rattle.growth.proofs.Keeping.{all_right, same_place, not_both, SameTop, Later, Begun, Grew, kept_in, all_left, all_beside, same_top, unchanged, begun_beside, begun_left, begun_below, still, rows_kept, rows_begun, At, node_at, AllKept}
 use Rattle.growth.proofs.OnePath.{paths, all_fit}
 use Rattle.growth.proofs.SoundBodies.{topped_called, items_laid, Topped, Sound}
-use Rattle.growth.proofs.SoundCalls.{item_at, item_ways, BodyFits, FoundFits, named_fits, base_topped, remembered_topped, locked_topped, template_topped, hook_topped, Stops, before_loop_stops, at_item_stops, items_proper, calls_sound}
+use Rattle.growth.proofs.SoundCalls.{item_at, item_ways, BodyFits, TemplateFits, FoundFits, named_fits, base_topped, remembered_topped, locked_topped, template_topped, hook_topped, Stops, before_loop_stops, at_item_stops, items_proper, calls_sound}
 use Rattle.growth.proofs.GrowingBodies.{open_later, succeeded_fulfilled, pod_grew, retry_grew, suspend_grew, Growing, fair_under, steps_grew}
 use Rattle.growth.proofs.GrowingDags.{dag_grew}
 use Rattle.meaning.proofs.Flattening.{lines_hooked}
@@ -129,8 +129,8 @@ module _ (m : Manifest) (A B : Answers) (g : SaysMore A B) (flow : Scope) (run r
   body_grew : (p : Place) (s : Scope) (ds : List OutputDecl) (r : Option Retry) (b : Body) → BodyFits paths b → FairIn p (body_by A run p s ds r b) → Grew A B (body_by A run p s ds r b) (body_by B ran p s ds r b)
   body_grew p s ds None body.Pod k f = pod_grew A B g p ds
   body_grew p s ds (Some r) body.Pod k f = retry_grew A B g p ds r
-  body_grew p s ds None (body.Steps gs) k f = steps_grew A B run ran sound grows p s ds gs k f
-  body_grew p s ds (Some r) (body.Steps gs) k f = steps_grew A B run ran sound grows p s ds gs k f
+  body_grew p s ds None (body.Steps gs) k f = steps_grew A B run ran sound grows p s ds gs k.0 f
+  body_grew p s ds (Some r) (body.Steps gs) k f = steps_grew A B run ran sound grows p s ds gs k.0 f
   body_grew p s ds None (body.Dag d) k f = dag_grew A B g run ran sound sounds grows p s d ds f
   body_grew p s ds (Some r) (body.Dag d) k f = dag_grew A B g run ran sound sounds grows p s d ds f
   body_grew p s ds None (body.Suspend o) k f = suspend_grew A B g p s ds o
@@ -172,9 +172,9 @@ module _ (m : Manifest) (A B : Answers) (g : SaysMore A B) (flow : Scope) (run r
   none_begin q (inr (inl x)) = x
   none_begin q (inr (inr x)) = x
 
-  module _ (t : Template) (fits : BodyFits paths t.body) where
+  module _ (t : Template) (fits : TemplateFits paths t) where
     base_grew : (p : Place) (s : Scope) → FairIn p (body_made A run p s t) → Grew A B (body_made A run p s t) (body_made B ran p s t)
-    base_grew p s f = body_grew p s t.outputs t.retry t.body fits f
+    base_grew p s f = body_grew p s t.outputs t.retry t.body fits.0 f
 
     remembered_grew : (p : Place) (s : Scope) (c : Memoize) (key : List ℕ) (a b : Option MemoAnswer) → ((o : MemoAnswer) → a ≡ Some o → b ≡ Some o) → B.memo p.sels ≡ b → FairIn p (remembered A run p s t c key a) → Grew A B (remembered A run p s t c key a) (remembered B ran p s t c key b)
     remembered_grew p s c key None None h e f = record { begun = λ q n k. absurd (none_begin q k); later = unchanged A B refl }
@@ -207,7 +207,7 @@ module _ (m : Manifest) (A B : Answers) (g : SaysMore A B) (flow : Scope) (run r
   -- ---- a call of a template, whatever follows it
 
   module _ (p : Place) (follow later : Made → Made) (after : (a b : Made) → Topped paths A p a → (FairIn p a → Grew A B a b) → FairAt p (follow a) → Grew A B (follow a) (later b)) where
-    entry_grew : (t : Template) (k : Found Scope) → BodyFits paths t.body → FairAt p (entry A run p t follow k) → Grew A B (entry A run p t follow k) (entry B ran p t later k)
+    entry_grew : (t : Template) (k : Found Scope) → TemplateFits paths t → FairAt p (entry A run p t follow k) → Grew A B (entry A run p t follow k) (entry B ran p t later k)
     entry_grew t (Err fault) fits f = leaf_still _ ((λ _ r. absurd (cc r)), tt)
     entry_grew t (Ok inner) fits f = after (template_made A run p inner t) (template_made B ran p inner t) (template_topped paths A m flow run (all_fit m.templates) sound t fits p inner) (template_grew t fits p inner) f
 

@@ -1,11 +1,13 @@
 -- Where the names of steps and tasks are as a valid manifest has them, those of a group, and of a DAG, are sound and apart.
-use Rattle.std.proofs.Common.{◌≡◌, refl, sym, ◌∙◌, ap, ap₂, subst, append_assoc, append-nil}
+use Rattle.std.proofs.Common.{◌≡◌, refl, sym, ◌∙◌, ap, ap₂, subst, append_assoc, append-nil, ◌≤◌, length}
 use Rattle.std.proofs.Math.Logic.{inl, inr}
+use Rattle.std.proofs.lemmas.Bool.{leb-true}
 use Rattle.std.proofs.lemmas.List.Folds.{list_any-append}
 use Rattle.std.proofs.lemmas.Slice.Eq.{bytes_eq-Decides}
 use Rattle.std.specs.Prelude.{ℕ, List, [], ◌∷◌, ◌++◌, Bool, true, false, not, ◌&&◌, ◌||◌, bytes_eq, codes, map}
 use Rattle.std.specs.List.{list_all, AllByRecursion}
 use Rattle.base_types.specs.Bytes.{is_name}
+use Rattle.base_types.specs.Limits.{most_members}
 use Rattle.base_types.specs.Names.{is_among, differ_from}
 use Rattle.node_names.specs.declared.seg.Seg.TheVariants as seg
 use Rattle.node_names.specs.Names.{is_step_name, IsSound}
@@ -15,9 +17,9 @@ use Rattle.wf_manifest.specs.declared.templates.Body.{Body}
 use Rattle.wf_manifest.specs.declared.templates.Body.TheVariants as body
 use Rattle.wf_manifest.specs.declared.templates.Template.{Template}
 use Rattle.wf_manifest.specs.declared.manifest.Manifest.{Manifest}
-use Rattle.wf_manifest.specs.Valid.{calls_in, calls_of, has_step_names, steps_differ}
+use Rattle.wf_manifest.specs.Valid.{calls_in, calls_of, has_step_names, steps_differ, is_short, body_is_short}
 use Rattle.growth.specs.Growth.{Among}
-use Rattle.growth.specs.Nodes.{NamesApart}
+use Rattle.growth.specs.Nodes.{NamesApart, ValidAreApart}
 use Rattle.growth.proofs.Numbered.{both_true}
 
 -- ---- what is known of the names of one group, or of one DAG
@@ -32,7 +34,7 @@ GroupsApart (cs ∷ gs) = AreApart (map (λ c. c.name) cs) × GroupsApart gs
 
 abbrev pub BodyApart : Body → Type 0
 BodyApart body.Pod = Unit {0}
-BodyApart (body.Steps gs) = GroupsApart gs
+BodyApart (body.Steps gs) = GroupsApart gs × (length gs ≤ most_members)
 BodyApart (body.Dag d) = AreApart (map (λ t. t.call.name) d.tasks)
 BodyApart (body.Suspend duration) = Unit {0}
 
@@ -115,19 +117,23 @@ tasks_all (t ∷ ts) = ap (λ b. is_step_name t.call.name && b) (tasks_all ts)
 
 -- ---- manifests
 
-of_body : (b : Body) → differ_from [] (map (λ c. c.name) (calls_of b)) ≡ true → list_all (λ c. is_step_name c.name) (calls_of b) ≡ true → BodyApart b
-of_body body.Pod d e = tt
-of_body (body.Steps gs) d e = groups_apart [] gs d e
-of_body (body.Dag dag) d e =
+of_body : (b : Body) → differ_from [] (map (λ c. c.name) (calls_of b)) ≡ true → list_all (λ c. is_step_name c.name) (calls_of b) ≡ true → body_is_short b ≡ true → BodyApart b
+of_body body.Pod d e s = tt
+of_body (body.Steps gs) d e s = (groups_apart [] gs d e, leb-true (length gs) most_members (both_true (is_short gs) (list_all is_short gs) s).0)
+of_body (body.Dag dag) d e s =
     apart (λ t. t.call.name) [] dag.tasks (subst (λ (l : List (List ℕ)). differ_from [] l ≡ true) (tasks_names dag.tasks) d) (sym (tasks_all dag.tasks) ∙ e)
-of_body (body.Suspend duration) d e = tt
+of_body (body.Suspend duration) d e s = tt
 
-of_templates : (ts : List Template) → list_all steps_differ ts ≡ true → list_all has_step_names ts ≡ true → AllByRecursion (λ t. BodyApart t.body) ts
-of_templates [] d e = tt
-of_templates (t ∷ ts) d e =
+of_templates : (ts : List Template) → list_all steps_differ ts ≡ true → list_all has_step_names ts ≡ true → list_all (λ t. body_is_short t.body) ts ≡ true → AllByRecursion (λ t. BodyApart t.body) ts
+of_templates [] d e s = tt
+of_templates (t ∷ ts) d e s =
     let differs = both_true (steps_differ t) (list_all steps_differ ts) d in
     let named = both_true (has_step_names t) (list_all has_step_names ts) e in
-    (of_body t.body differs.0 named.0, of_templates ts differs.1 named.1)
+    let short = both_true (body_is_short t.body) (list_all (λ t. body_is_short t.body) ts) s in
+    (of_body t.body differs.0 named.0 short.0, of_templates ts differs.1 named.1 short.1)
+
+pub valid_are_apart : ValidAreApart
+valid_are_apart m v e = record { step_names = v.step_names; steps_differ = v.steps_differ; short = v.short; limits = e }
 
 pub bodies_apart : (m : Manifest) → NamesApart m → AllByRecursion (λ t. BodyApart t.body) m.templates
-bodies_apart m h = of_templates m.templates h.steps_differ h.step_names
+bodies_apart m h = of_templates m.templates h.steps_differ h.step_names (both_true (is_short m.templates) (list_all (λ t. body_is_short t.body) m.templates) h.short).1

@@ -43,7 +43,7 @@ use Rattle.meaning.proofs.Flattening.{lines_tried}
 use Rattle.growth.proofs.Numbered.{all_map, All, all_numbered, Laid}
 use Rattle.growth.proofs.Lines.{Has, AllOpen, Unresumed, Proper, proper_append, proper_map, proper_wants, Nowhere, Under, Inside, AtChild, From, inside_under, under_at_child, Ways, from_inside, child_then, rows_proper}
 use Rattle.growth.proofs.Keeping.{At, node_at, ending_ends}
-use Rattle.growth.proofs.Geometry.{Descent, down, Geometry, Placed, placed_map, placed_none, placed_wants, placed_before, Inner, Top, outer, placed_made, Kin, Kids, kids_inner, placed_then, placed_last, rows_placed, kin_numbers}
+use Rattle.growth.proofs.Geometry.{Descent, down, Geometry, Placed, placed_map, placed_none, placed_wants, placed_before, Inner, Top, outer, placed_made, Kin, Kids, kids_inner, placed_then, placed_last, rows_placed}
 
 -- ---- the children of each kind
 
@@ -67,6 +67,11 @@ task_ways = record { differ = λ i j e. cc e; inner = λ i. refl }
 
 abbrev pub attempt_step : ℕ → Unit {0} → Descent
 attempt_step i x = (Attempt i, seg.Attempt i)
+
+-- attempts, one more than a number
+abbrev pub tries : ℕ → List (Unit {0})
+tries zero = tt ∷ []
+tries (suc n) = tt ∷ tries n
 
 abbrev pub group_step : ℕ → List Call → Descent
 group_step i cs = (Group i, seg.Group i)
@@ -111,6 +116,14 @@ module _ (G : Geometry) where
   abbrev pub StepsFit : List (List Call) → Type 0
   StepsFit [] = Unit {0}
   StepsFit (cs ∷ gs) = Kin G member_step 0 cs × StepsFit gs
+
+  abbrev pub GroupsFit : List (List Call) → Type 0
+  GroupsFit gs = StepsFit gs × Kin G group_step 0 gs
+
+  -- each attempt that a retry allows
+  abbrev pub AttemptsFit : Option Retry → Type 0
+  AttemptsFit None = Unit {0}
+  AttemptsFit (Some r) = Kin G attempt_step 0 (tries (further r))
 
   abbrev pub DagFits : Dag → Type 0
   DagFits d = Kin G task_step 0 d.tasks
@@ -172,16 +185,11 @@ module _ (G : Geometry) (A : Answers) where
   pod_proper p ds (Some o) e = let n = ending_ends p kind.Pod o.1.phase o.0 (outputs_of o.1) (completed ds (outputs_of o.1)) in ((λ s _. absurd (cc (s, n.kind))), tt)
 
   module _ (p : Place) (ds : List OutputDecl) (r : Retry) where
-    -- attempts that may follow, one more than a number
-    abbrev tries : ℕ → List (Unit {0})
-    tries zero = tt ∷ []
-    tries (suc n) = tt ∷ tries n
-
     abbrev Region : ℕ → ℕ → Node → Type 0
     Region k n = Kids G attempt_step p k (tries n)
 
-    tries_kin : (k n : ℕ) → Kin G attempt_step k (tries n)
-    tries_kin k n = kin_numbers G attempt_step (λ i x. G.attempt i) (λ i j x y l. G.attempts i j l) k (tries n)
+    abbrev TriesKin : ℕ → ℕ → Type 0
+    TriesKin k n = Kin G attempt_step k (tries n)
 
     -- the attempts from one on: their lines are proper, and the timer of the next was not due
     record Trying (k n : ℕ) (a : Attempts) : Type 0 where
@@ -207,7 +215,7 @@ module _ (G : Geometry) (A : Answers) where
     not_due None k e = absurd (cc e)
     not_due (Some b) k e = e
 
-    module _ (k n : ℕ) (o : Note × Outcome) (known : A.outcome (attempt p k) ≡ Some o) (begin : ℕ) (rest : ℕ → Attempts) (more : Trying (suc k) n (rest begin)) where
+    module _ (k n : ℕ) (o : Note × Outcome) (known : A.outcome (attempt p k) ≡ Some o) (begin : ℕ) (rest : ℕ → Attempts) (more : Trying (suc k) n (rest begin)) (kin : TriesKin k (suc n)) where
       abbrev this : Made
       this = ended_attempt p ds k o
 
@@ -219,7 +227,7 @@ module _ (G : Geometry) (A : Answers) where
       }
       trying_started true e = record {
         pods = proper_append A Nowhere (lines_in this) (lines_of (rest begin).all) (pod_proper (attempt p k) ds (Some o) known) more.pods;
-        placed = placed_then G attempt_step p k tt (tries n) (lines_in this) (lines_of (rest begin).all) (tries_kin k (suc n)) (one_placed k (Some o) known) more.placed;
+        placed = placed_then G attempt_step p k tt (tries n) (lines_in this) (lines_of (rest begin).all) kin (one_placed k (Some o) known) more.placed;
         timer = λ tick f. (let s : suc k + length (rest begin).all ≡ k + suc (length (rest begin).all) = omega arith in subst (λ (i : ℕ). A.due (attempt p i).sels ≡ false) s (more.timer tick f));
       }
 
@@ -227,13 +235,13 @@ module _ (G : Geometry) (A : Answers) where
       trying_retried false = one_ends k (suc n) (Some o) true known
       trying_retried true = trying_started (may_start A p r.backoff (suc k)) refl
 
-    trying_by : (k n : ℕ) (first : Option ℕ) (rest : ℕ → Attempts) → ((begin : ℕ) → Trying (suc k) n (rest begin)) → (o : Option (Note × Outcome)) → A.outcome (attempt p k) ≡ o → Trying k (suc n) (attempt_by A p ds r k first rest o)
-    trying_by k n first rest more None e = one_ends k (suc n) None false e
-    trying_by k n first rest more (Some o) e = trying_retried k n o e (first_begin first o.1) rest (more (first_begin first o.1)) (follows p ds r o k (first_begin first o.1))
+    trying_by : (k n : ℕ) (first : Option ℕ) (rest : ℕ → Attempts) → ((begin : ℕ) → Trying (suc k) n (rest begin)) → TriesKin k (suc n) → (o : Option (Note × Outcome)) → A.outcome (attempt p k) ≡ o → Trying k (suc n) (attempt_by A p ds r k first rest o)
+    trying_by k n first rest more kin None e = one_ends k (suc n) None false e
+    trying_by k n first rest more kin (Some o) e = trying_retried k n o e (first_begin first o.1) rest (more (first_begin first o.1)) kin (follows p ds r o k (first_begin first o.1))
 
-    trying : (n k : ℕ) (first : Option ℕ) → Trying k n (attempts_from A p ds r n k first)
-    trying zero k first = one_ends k zero (A.outcome (attempt p k)) _ refl
-    trying (suc n) k first = trying_by k n first (λ begin. attempts_from A p ds r n (suc k) (Some begin)) (λ begin. trying n (suc k) (Some begin)) (A.outcome (attempt p k)) refl
+    trying : (n k : ℕ) (first : Option ℕ) → TriesKin k n → Trying k n (attempts_from A p ds r n k first)
+    trying zero k first kin = one_ends k zero (A.outcome (attempt p k)) _ refl
+    trying (suc n) k first kin = trying_by k n first (λ begin. attempts_from A p ds r n (suc k) (Some begin)) (λ begin. trying n (suc k) (Some begin) kin.2) kin (A.outcome (attempt p k)) refl
 
     timer_open : (a : Attempts) (n : ℕ) → Trying 0 n a → (t : Option ℕ) → a.next ≡ t → AllOpen A (next_timer p a.all t)
     timer_open a n h None e = tt
@@ -251,14 +259,18 @@ module _ (G : Geometry) (A : Answers) where
     laid : lines_of the.all ++ map Asks timers ≡ lines_below below_it
     laid = sym (lines_tried (row_of the.all) timers)
 
-    below_proper : Proper A Nowhere (lines_of the.all ++ map Asks timers)
-    below_proper = let h = trying (further r) 0 None in proper_append A Nowhere (lines_of the.all) (map Asks timers) h.pods (proper_wants A Nowhere timers (timer_open the (further r) h the.next refl))
+    -- each attempt that may follow fits
+    abbrev AttemptsKin : Type 0
+    AttemptsKin = TriesKin 0 (further r)
 
-    below_placed : Placed G (Inner G p) (lines_of the.all ++ map Asks timers)
-    below_placed =
+    below_proper : AttemptsKin → Proper A Nowhere (lines_of the.all ++ map Asks timers)
+    below_proper kin = let h = trying (further r) 0 None kin in proper_append A Nowhere (lines_of the.all) (map Asks timers) h.pods (proper_wants A Nowhere timers (timer_open the (further r) h the.next refl))
+
+    below_placed : AttemptsKin → Placed G (Inner G p) (lines_of the.all ++ map Asks timers)
+    below_placed kin =
         let n = further r in
-        let h = trying n 0 None in
-        placed_before G (Inner G p) (lines_of the.all) (map Asks timers) (placed_map G (Region 0 n) (Inner G p) (lines_of the.all) (kids_inner G attempt_step p 0 (tries n) (λ j x. refl) (tries_kin 0 n)) h.placed) (placed_wants G (λ k. ⊥) timers)
+        let h = trying n 0 None kin in
+        placed_before G (Inner G p) (lines_of the.all) (map Asks timers) (placed_map G (Region 0 n) (Inner G p) (lines_of the.all) (kids_inner G attempt_step p 0 (tries n) (λ j x. refl) kin) h.placed) (placed_wants G (λ k. ⊥) timers)
 
     pub retry_at : (a : Attempts) (b : Bool) → At p (retry_node p a b)
     retry_at a true = node_at p kind.Retry a.last.own.node.phase note.None a.last.own.node.outputs
@@ -268,11 +280,11 @@ module _ (G : Geometry) (A : Answers) where
     unresumed a true s _ = absurd (cc s)
     unresumed a false s _ = absurd (cc s)
 
-    pub retry_topped : Topped p (retry_made A p ds r)
-    retry_topped = made_topped p (retry_node p the the.over) [] below_it (retry_at the the.over) (unresumed the the.over) tt (proper_map A Nowhere (Inside p.sels) (lines_below below_it) (λ q x. absurd x) (subst (Proper A Nowhere) laid below_proper)) (subst (Placed G (Inner G p)) laid below_placed)
+    pub retry_topped : AttemptsKin → Topped p (retry_made A p ds r)
+    retry_topped kin = made_topped p (retry_node p the the.over) [] below_it (retry_at the the.over) (unresumed the the.over) tt (proper_map A Nowhere (Inside p.sels) (lines_below below_it) (λ q x. absurd x) (subst (Proper A Nowhere) laid (below_proper kin))) (subst (Placed G (Inner G p)) laid (below_placed kin))
 
-    pub retry_proper : Proper A Nowhere (lines_in (retry_made A p ds r))
-    retry_proper = (unresumed the the.over, subst (Proper A Nowhere) laid below_proper)
+    pub retry_proper : AttemptsKin → Proper A Nowhere (lines_in (retry_made A p ds r))
+    retry_proper kin = (unresumed the the.over, subst (Proper A Nowhere) laid (below_proper kin))
 
   -- ---- suspended nodes
 
@@ -322,27 +334,24 @@ module _ (G : Geometry) (A : Answers) where
         pub proper : Proper A (From group_at p.sels i) ls
         pub placed : Placed G (Kids G group_step p i gs) ls
 
-      groups_kin : (i : ℕ) (gs : List (List Call)) → Kin G group_step i gs
-      groups_kin i gs = kin_numbers G group_step (λ j x. G.group j) (λ j k x y l. G.groups j k l) i gs
-
-      groups_by_sound : (i : ℕ) (s tags : Scope) (cs : List Call) (gs : List (List Call)) (rest : Scope → Groups) → Called (group_place p i) (group_made (group_place p i) (members_at run p i s cs)) → ((inner : Scope) → Grouped (suc i) gs (lines_of (rest inner).all)) → (b : Bool) → Grouped i (cs ∷ gs) (lines_of (groups_by (group_made (group_place p i) (members_at run p i s cs)) tags s rest b).all)
-      groups_by_sound i s tags cs gs rest g h true =
+      groups_by_sound : (i : ℕ) (s tags : Scope) (cs : List Call) (gs : List (List Call)) (rest : Scope → Groups) → Called (group_place p i) (group_made (group_place p i) (members_at run p i s cs)) → ((inner : Scope) → Grouped (suc i) gs (lines_of (rest inner).all)) → Kin G group_step i (cs ∷ gs) → (b : Bool) → Grouped i (cs ∷ gs) (lines_of (groups_by (group_made (group_place p i) (members_at run p i s cs)) tags s rest b).all)
+      groups_by_sound i s tags cs gs rest g h kin true =
           let ls = (lines_in (group_made (group_place p i) (members_at run p i s cs))) in
           let r = h (tags ++ s) in
-          record { proper = child_then group_at group_ways p.sels A i ls (lines_of (rest (tags ++ s)).all) (at_child p.sels (group_at i) ls g.proper) r.proper; placed = placed_then G group_step p i cs gs ls (lines_of (rest (tags ++ s)).all) (groups_kin i (cs ∷ gs)) g.placed r.placed }
-      groups_by_sound i s tags cs gs rest g h false =
+          record { proper = child_then group_at group_ways p.sels A i ls (lines_of (rest (tags ++ s)).all) (at_child p.sels (group_at i) ls g.proper) r.proper; placed = placed_then G group_step p i cs gs ls (lines_of (rest (tags ++ s)).all) kin g.placed r.placed }
+      groups_by_sound i s tags cs gs rest g h kin false =
           let ls = (lines_in (group_made (group_place p i) (members_at run p i s cs))) in
           record { proper = child_then group_at group_ways p.sels A i ls [] (at_child p.sels (group_at i) ls g.proper) tt; placed = placed_last G group_step p i cs gs ls g.placed }
 
-      pub groups_sound : (i : ℕ) (s : Scope) (gs : List (List Call)) → StepsFit G gs → Grouped i gs (lines_of (groups_from run p i s gs).all)
-      groups_sound i s [] k = record { proper = tt; placed = placed_none G (Kids G group_step p i []) }
-      groups_sound i s (cs ∷ gs) k = groups_by_sound i s _ cs gs (λ inner. groups_from run p (suc i) inner gs) (group_called (group_place p i) s cs k.0) (λ inner. groups_sound (suc i) inner gs k.1) _
+      pub groups_sound : (i : ℕ) (s : Scope) (gs : List (List Call)) → StepsFit G gs → Kin G group_step i gs → Grouped i gs (lines_of (groups_from run p i s gs).all)
+      groups_sound i s [] k kin = record { proper = tt; placed = placed_none G (Kids G group_step p i []) }
+      groups_sound i s (cs ∷ gs) k kin = groups_by_sound i s _ cs gs (λ inner. groups_from run p (suc i) inner gs) (group_called (group_place p i) s cs k.0) (λ inner. groups_sound (suc i) inner gs k.1 kin.2) kin _
 
-    pub steps_topped : (p : Place) (s : Scope) (ds : List OutputDecl) (gs : List (List Call)) → StepsFit G gs → Topped p (steps_made run p s ds gs)
-    steps_topped p s ds gs k =
+    pub steps_topped : (p : Place) (s : Scope) (ds : List OutputDecl) (gs : List (List Call)) → StepsFit G gs → Kin G group_step 0 gs → Topped p (steps_made run p s ds gs)
+    steps_topped p s ds gs k kin =
         let a = groups_from run p 0 s gs in
-        let h = groups_sound p 0 s gs k in
-        ending_topped p kind.Steps (steps_phase a.all) note.None no_outputs (computed a.scope ds) (row_of a.all) (λ e. absurd (cc e)) (proper_map A (From group_at p.sels 0) (Inside p.sels) (lines_of a.all) (from_inside group_at group_ways p.sels 0) h.proper) (placed_map G (Kids G group_step p 0 gs) (Inner G p) (lines_of a.all) (kids_inner G group_step p 0 gs (λ j x. refl) (groups_kin p 0 gs)) h.placed)
+        let h = groups_sound p 0 s gs k kin in
+        ending_topped p kind.Steps (steps_phase a.all) note.None no_outputs (computed a.scope ds) (row_of a.all) (λ e. absurd (cc e)) (proper_map A (From group_at p.sels 0) (Inside p.sels) (lines_of a.all) (from_inside group_at group_ways p.sels 0) h.proper) (placed_map G (Kids G group_step p 0 gs) (Inner G p) (lines_of a.all) (kids_inner G group_step p 0 gs (λ j x. refl) kin) h.placed)
 
     -- ---- DAGs
 

@@ -1,9 +1,10 @@
 -- What a call makes is sound, and so is a whole tree.
-use Rattle.std.proofs.Common.{◌≡◌, refl, sym, ap, subst, ◌⊎◌}
+use Rattle.std.proofs.Common.{◌≡◌, refl, sym, ap, subst, ◌≤◌, ◌⊎◌, arith, length}
 use Rattle.std.proofs.Math.Logic.{inl, inr}
 use Rattle.std.specs.Prelude.{ℕ, zero, suc, List, [], ◌∷◌, ◌++◌, Bool, true, false, not, cond, Option, Some, None, Ok, Err, bytes_eq}
 use Rattle.std.specs.List.{find}
 use Rattle.serde_json.specs.Data.{Data}
+use Rattle.base_types.specs.Limits.{most_items}
 use Rattle.tree_types.specs.declared.path.Sel.{Sel}
 use Rattle.tree_types.specs.declared.path.Path.{Path}
 use Rattle.tree_types.specs.declared.path.Sel.TheVariants.{Main, Exit, Item}
@@ -42,8 +43,9 @@ use Rattle.meaning.specs.Trees.{globals_of, root, exit_root, top_call, main_made
 use Rattle.growth.proofs.Numbered.{All, all_numbered}
 use Rattle.growth.proofs.Lines.{any_left, IsAt, Unresumed, Proper, proper_append, proper_map, Nowhere, Anywhere, Under, Inside, AtChild, From, child_under, Ways, from_under, rows_proper, Has}
 use Rattle.growth.proofs.Keeping.{At, node_at}
-use Rattle.growth.proofs.Geometry.{Descent, Geometry, Apart, Placed, placed_map, placed_append, placed_none, Inner, Top, outer, top_below, hook_below, top_apart_hook, placed_made, Kin, Kids, kids_inner, rows_placed, kin_numbers}
-use Rattle.growth.proofs.SoundBodies.{items_laid, StepsFit, DagFits, Topped, Called, topped_called, leaf_topped, alone_topped, pod_topped, retry_topped, suspend_topped, Sound, at_child, steps_topped, dag_topped}
+use Rattle.growth.proofs.Geometry.{Descent, Geometry, Apart, Placed, placed_map, placed_append, placed_none, Inner, Top, outer, top_below, hook_below, top_apart_hook, placed_made, Kin, Kids, kids_inner, rows_placed, kin_below}
+use Rattle.growth.proofs.FewItems.{items_few}
+use Rattle.growth.proofs.SoundBodies.{items_laid, GroupsFit, AttemptsFit, DagFits, Topped, Called, topped_called, leaf_topped, alone_topped, pod_topped, retry_topped, suspend_topped, Sound, at_child, steps_topped, dag_topped}
 use Rattle.meaning.proofs.Flattening.{lines_hooked}
 
 abbrev pub item_at : ℕ → Sel
@@ -60,17 +62,20 @@ item_step i d = (Item i, seg.Item i (name_text d))
 module _ (G : Geometry) where
   abbrev pub BodyFits : Body → Type 0
   BodyFits body.Pod = Unit {0}
-  BodyFits (body.Steps gs) = StepsFit G gs
+  BodyFits (body.Steps gs) = GroupsFit G gs
   BodyFits (body.Dag d) = DagFits G d
   BodyFits (body.Suspend o) = Unit {0}
 
+  abbrev pub TemplateFits : Template → Type 0
+  TemplateFits t = BodyFits t.body × AttemptsFit G t.retry
+
   abbrev pub TemplatesFit : List Template → Type 0
   TemplatesFit [] = Unit {0}
-  TemplatesFit (t ∷ ts) = BodyFits t.body × TemplatesFit ts
+  TemplatesFit (t ∷ ts) = TemplateFits t × TemplatesFit ts
 
   abbrev pub FoundFits : Option Template → Type 0
   FoundFits None = Unit {0}
-  FoundFits (Some t) = BodyFits t.body
+  FoundFits (Some t) = TemplateFits t
 
   find_fits : (p : Template → Bool) (ts : List Template) → TemplatesFit ts → FoundFits (find p ts)
   find_fits p [] h = tt
@@ -84,19 +89,19 @@ module _ (G : Geometry) where
   named_fits m n h = find_fits (λ t. bytes_eq t.name n) m.templates h
 
 module _ (G : Geometry) (A : Answers) where
-  items_kin : (i : ℕ) (ds : List Data) → Kin G item_step i ds
-  items_kin i ds = kin_numbers G item_step (λ j d. G.item j d) (λ j k c d l. G.items j k c d l) i ds
+  items_kin : (ds : List Data) → length ds ≤ most_items → Kin G item_step 0 ds
+  items_kin ds few = kin_below G item_step most_items (λ j d l. G.item j d l) (λ j k c d l. G.items j k c d l) 0 ds (omega arith)
 
   module _ (m : Manifest) (flow : Scope) (run : Caller) (fit : TemplatesFit G m.templates) (sound : Sound G A run) where
-    body_topped : (p : Place) (s : Scope) (ds : List OutputDecl) (r : Option Retry) (b : Body) → BodyFits G b → Topped G A p (body_by A run p s ds r b)
-    body_topped p s ds None body.Pod k = pod_topped G A p ds (A.outcome p) refl
-    body_topped p s ds (Some r) body.Pod k = retry_topped G A p ds r
-    body_topped p s ds None (body.Steps gs) k = steps_topped G A run sound p s ds gs k
-    body_topped p s ds (Some r) (body.Steps gs) k = steps_topped G A run sound p s ds gs k
-    body_topped p s ds None (body.Dag d) k = dag_topped G A run sound p s d ds k
-    body_topped p s ds (Some r) (body.Dag d) k = dag_topped G A run sound p s d ds k
-    body_topped p s ds None (body.Suspend o) k = suspend_topped G A p s ds o
-    body_topped p s ds (Some r) (body.Suspend o) k = suspend_topped G A p s ds o
+    body_topped : (p : Place) (s : Scope) (ds : List OutputDecl) (r : Option Retry) (b : Body) → BodyFits G b → AttemptsFit G r → Topped G A p (body_by A run p s ds r b)
+    body_topped p s ds None body.Pod k a = pod_topped G A p ds (A.outcome p) refl
+    body_topped p s ds (Some r) body.Pod k a = retry_topped G A p ds r a
+    body_topped p s ds None (body.Steps gs) k a = steps_topped G A run sound p s ds gs k.0 k.1
+    body_topped p s ds (Some r) (body.Steps gs) k a = steps_topped G A run sound p s ds gs k.0 k.1
+    body_topped p s ds None (body.Dag d) k a = dag_topped G A run sound p s d ds k
+    body_topped p s ds (Some r) (body.Dag d) k a = dag_topped G A run sound p s d ds k
+    body_topped p s ds None (body.Suspend o) k a = suspend_topped G A p s ds o
+    body_topped p s ds (Some r) (body.Suspend o) k a = suspend_topped G A p s ds o
 
     -- ---- memory and locks
 
@@ -113,9 +118,9 @@ module _ (G : Geometry) (A : Answers) where
         alone f (inl y) = y
         alone f (inr y) = f y
 
-    module _ (t : Template) (fits : BodyFits G t.body) where
+    module _ (t : Template) (fits : TemplateFits G t) where
       pub base_topped : (p : Place) (s : Scope) → Topped G A p (body_made A run p s t)
-      base_topped p s = body_topped p s t.outputs t.retry t.body fits
+      base_topped p s = body_topped p s t.outputs t.retry t.body fits.0 fits.1
 
       pub remembered_topped : (p : Place) (s : Scope) (c : Memoize) (key : List ℕ) (a : Option MemoAnswer) → A.memo p.sels ≡ a → Topped G A p (remembered A run p s t c key a)
       remembered_topped p s c key None e = leaf_topped G A p (node p (kind_of t) Pending (note.Looking c.cache) no_outputs) (want.LookUp (path p.sels) c.cache key c.max_age ∷ []) (node_at p (kind_of t) Pending (note.Looking c.cache) no_outputs) (λ _ r. absurd (cc r)) (e, tt)
@@ -144,7 +149,7 @@ module _ (G : Geometry) (A : Answers) where
     -- ---- a call of a template, whatever follows it
 
     module _ (p : Place) (follow : Made → Made) (R : Made → Type 0) (after : (b : Made) → Topped G A p b → R (follow b)) (instead : (b : Made) → Topped G A p b → R b) where
-      entry_is : (t : Template) (f : Found Scope) → BodyFits G t.body → R (entry A run p t follow f)
+      entry_is : (t : Template) (f : Found Scope) → TemplateFits G t → R (entry A run p t follow f)
       entry_is t (Err fault) k = instead (alone p (kind_of t) Error fault) (alone_topped G A p (kind_of t) Error fault (λ r. absurd (cc r)))
       entry_is t (Ok inner) k = after (template_made A run p inner t) (template_topped t k p inner)
 
@@ -224,25 +229,25 @@ module _ (G : Geometry) (A : Answers) where
     loop_unresumed p ds ms true e _ = absurd (cc e)
     loop_unresumed p ds ms false e _ = absurd (cc e)
 
-    loop_called : (prefix : List ℕ) (p : Place) (s : Scope) (c : Call) (os : List OutputDecl) (ds : List Data) → Called G A p (loop_made p os (items_made m A flow run prefix p s c ds))
-    loop_called prefix p s c os ds =
+    loop_called : (prefix : List ℕ) (p : Place) (s : Scope) (c : Call) (os : List OutputDecl) (ds : List Data) → length ds ≤ most_items → Called G A p (loop_made p os (items_made m A flow run prefix p s c ds))
+    loop_called prefix p s c os ds few =
         let ms : List Made = items_made m A flow run prefix p s c ds in
         let n : Node = loop_node p os ms (all_finished ms) in
-        let inner : Placed G (Inner G p) (lines_of ms) = placed_map G (Kids G item_step p 0 ds) (Inner G p) (lines_of ms) (kids_inner G item_step p 0 ds (λ j x. refl) (items_kin 0 ds)) (rows_placed G item_step items_laid (item_made m A flow run prefix p s c) p 0 ds (items_kin 0 ds) (λ j d. (one_called prefix (item_place p j d) (item_tags d ++ s) c).placed)) in
+        let inner : Placed G (Inner G p) (lines_of ms) = placed_map G (Kids G item_step p 0 ds) (Inner G p) (lines_of ms) (kids_inner G item_step p 0 ds (λ j x. refl) (items_kin ds few)) (rows_placed G item_step items_laid (item_made m A flow run prefix p s c) p 0 ds (items_kin ds few) (λ j d. (one_called prefix (item_place p j d) (item_tags d ++ s) c).placed)) in
         record {
           has = inl (ap (λ (x : Path). x.sels) (loop_at p os ms (all_finished ms)).path);
           proper = (loop_unresumed p os ms (all_finished ms), proper_map A (From item_at p.sels 0) (Under p.sels) (lines_of ms) (from_under item_at item_ways p.sels 0) (rows_proper item_at item_ways p.sels items_laid A 0 ms (items_proper prefix p s c 0 ds)));
           placed = outer G p (Stands n ∷ lines_of ms) (placed_made G p n [] (lines_of ms) (loop_at p os ms (all_finished ms)) inner);
         }
 
-    looped_called : (prefix : List ℕ) (p : Place) (s : Scope) (c : Call) (f : Found (List Data)) → Called G A p (looped m A flow run prefix p s c f)
-    looped_called prefix p s c (Err fault) = topped_called G A p (alone p kind.TaskGroup Error fault) (alone_topped G A p kind.TaskGroup Error fault (λ r. absurd (cc r)))
-    looped_called prefix p s c (Ok []) = topped_called G A p (alone p kind.Skipped Skipped note.NoItems) (alone_topped G A p kind.Skipped Skipped note.NoItems (λ r. absurd (cc r)))
-    looped_called prefix p s c (Ok (d ∷ ds)) = loop_called prefix p s c (declared_by (template_named m c.template)) (d ∷ ds)
+    looped_called : (prefix : List ℕ) (p : Place) (s : Scope) (c : Call) (f : Found (List Data)) → ((ds : List Data) → f ≡ Ok ds → length ds ≤ most_items) → Called G A p (looped m A flow run prefix p s c f)
+    looped_called prefix p s c (Err fault) few = topped_called G A p (alone p kind.TaskGroup Error fault) (alone_topped G A p kind.TaskGroup Error fault (λ r. absurd (cc r)))
+    looped_called prefix p s c (Ok []) few = topped_called G A p (alone p kind.Skipped Skipped note.NoItems) (alone_topped G A p kind.Skipped Skipped note.NoItems (λ r. absurd (cc r)))
+    looped_called prefix p s c (Ok (d ∷ ds)) few = loop_called prefix p s c (declared_by (template_named m c.template)) (d ∷ ds) (few (d ∷ ds) refl)
 
     each_called : (prefix : List ℕ) (p : Place) (s : Scope) (c : Call) (l : Option Loop) → Called G A p (each_made m A flow run prefix p s c l)
     each_called prefix p s c None = one_called prefix p s c
-    each_called prefix p s c (Some l) = looped_called prefix p s c (items s l)
+    each_called prefix p s c (Some l) = looped_called prefix p s c (items s l) (items_few s l)
 
     pub call_called : Sound G A (call_made m A flow run)
     call_called prefix p s c = unless_called p (stopped_before_loop p (kind_named m c.template) s c.when) _ (before_loop_stops p (kind_named m c.template) s c.when) (each_called prefix p s c c.each)
