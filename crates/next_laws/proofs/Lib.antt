@@ -1,0 +1,10 @@
+pub mod Firsts
+pub mod Reasons
+pub mod Acting
+pub mod Locks
+pub mod Agreeing
+pub mod Ticks
+pub mod Gets
+pub mod ContentKinds
+pub mod Keeping
+pub mod Rounds

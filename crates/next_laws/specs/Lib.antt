@@ -1,0 +1,4 @@
+pub mod Acts
+pub mod Fresh
+pub mod NextTicks
+pub mod Jobs
