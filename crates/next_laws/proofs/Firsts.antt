@@ -35,6 +35,16 @@ any_given {A} test (y ∷ xs) e = by (test y) refl e (λ h. any_given test xs h)
     by true t h ih = (y, inl refl, t)
     by false t h ih = let r = ih h in (r.0, inr r.1, r.2)
 
+pub among_filter : {A B : Type 0} (f : A → Option B) (xs : List A) (x : A) (y : B) → Among x xs → f x ≡ Some y → Among y (filter_map f xs)
+among_filter f [] x y i e = absurd i
+among_filter {A} {B} f (z ∷ xs) x y i e = by (f z) refl i (λ j. among_filter f xs x y j e)
+  where
+    by : (o : Option B) → f z ≡ o → Among x (z ∷ xs) → (Among x xs → Among y (filter_map f xs)) → Among y (cons_option o (filter_map f xs))
+    by None t (inl q) ih = none_some y (sym t ∙ ap f q ∙ e)
+    by None t (inr j) ih = ih j
+    by (Some u) t (inl q) ih = inl (some_same u y (sym t ∙ ap f q ∙ e))
+    by (Some u) t (inr j) ih = inr (ih j)
+
 -- ---- options
 
 pub mapped : {A B : Type 0} (f : A → B) (o : Option A) (y : B) → option_map f o ≡ Some y → (x : A) × (o ≡ Some x) × (f x ≡ y)

@@ -29,7 +29,7 @@ use Rattle.next_laws.specs.Jobs.{IsConflict}
 use Rattle.next_laws.proofs.Gets.{OwnKey, own_key}
 use Rattle.next_laws.proofs.ContentKinds.{is_submitted}
 
-abbrev FreshJob : Story → Text → Job → Type 0
+abbrev pub FreshJob : Story → Text → Job → Type 0
 FreshJob h w (goes_on v) = Fresh h w v
 FreshJob h w (ended e) = Unit {0}
 
@@ -72,7 +72,7 @@ module _ (h : Story) (w : Text) (v : Views) (fresh : Fresh h w v) where
   missed_fresh Locks own e = tt
   missed_fresh Caches own e = tt
 
-  got_fresh : (k : Key) → OwnKey w k → (r : Reply) → Got h k r → FreshJob h w (after v (get k) r)
+  pub got_fresh : (k : Key) → OwnKey w k → (r : Reply) → Got h k r → FreshJob h w (after v (get k) r)
   got_fresh k own (found x) g = taken_fresh k own x.number x.tick x.content g
   got_fresh k own no_object g = missed_fresh k own g
   got_fresh k own fault g = tt
@@ -257,7 +257,7 @@ module _ (h : Story) (w : Text) (v : Views) (fresh : Fresh h w v) (s : Seen Flow
 
 -- ---- a whole job
 
-did_extends : (h i : Story) (c : Change) (r : Reply) → Did h c r i → Extends i h
+pub did_extends : (h i : Story) (c : Change) (r : Reply) → Did h c r i → Extends i h
 did_extends h i c (accepted x) d = subst (λ g. Extends g h) (sym d.grows) (extends_grown h c.event)
 did_extends h i c exists d = subst (λ g. Extends g h) (sym d.2) (extends_itself h)
 did_extends h i c (conflict e f) d = subst (λ g. Extends g h) (sym d.4) (extends_itself h)
@@ -270,7 +270,7 @@ goes_on_from D w h v g u stays = extends_itself h
 goes_on_from D w h v g u (reads k r x e got go rest) = goes_on_from D w h x g u rest
 goes_on_from D w h v g u (acts {i = i} m s facts r x e viewed adds d go rest) = extends_later g i h (goes_on_from D w i x g u rest) (did_extends h i (change_of w v s facts m) r d)
 
-acted_fresh : (D : Document) (w : Text) (h i g : Story) (v : Views) → IsLawful D g → Extends g i → Extends i h → Fresh h w v → (s : Seen Flow) → v.flow ≡ Some s → (facts : Facts) (m : Matter) (r : Reply) → Did h (change_of w v s facts m) r i → FreshJob i w (after v (act m) r)
+pub acted_fresh : (D : Document) (w : Text) (h i g : Story) (v : Views) → IsLawful D g → Extends g i → Extends i h → Fresh h w v → (s : Seen Flow) → v.flow ≡ Some s → (facts : Facts) (m : Matter) (r : Reply) → Did h (change_of w v s facts m) r i → FreshJob i w (after v (act m) r)
 acted_fresh D w h i g v l b a fresh s viewed facts m (accepted x) d =
     let c = change_of w v s facts m in
     let stood : Stood g h c.event = record { extends = subst (λ y. Extends g y) d.grows b } in

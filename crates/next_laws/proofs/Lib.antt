@@ -8,3 +8,6 @@ pub mod Gets
 pub mod ContentKinds
 pub mod Keeping
 pub mod Rounds
+pub mod Falling
+pub mod Few
+pub mod Ending

@@ -21,6 +21,7 @@ use Rattle.lawful.proofs.Changes.{FlowChange, same, submitted, written, flow_cha
 use Rattle.lawful.proofs.IsAsSaid.{by_lawful}
 use Rattle.next_step.specs.Ticks.{planned_end, unfinished_end, pod_end, timer_tick, timers, ticks_by, due_ticks, if_above, least_above, next_tick}
 use Rattle.next_laws.specs.NextTicks.{NextTickIsNext}
+use Rattle.next_laws.proofs.Firsts.{among_filter}
 
 -- ---- members
 
@@ -55,16 +56,6 @@ map_among : {A B : Type 0} (f : A → B) (xs : List A) (y : B) → Among y (map 
 map_among f [] y i = absurd i
 map_among f (x ∷ xs) y (inl e) = (x, inl refl, e)
 map_among f (x ∷ xs) y (inr i) = let r = map_among f xs y i in (r.0, inr r.1, r.2)
-
-among_filter : {A B : Type 0} (f : A → Option B) (xs : List A) (x : A) (y : B) → Among x xs → f x ≡ Some y → Among y (filter_map f xs)
-among_filter f [] x y i e = absurd i
-among_filter {A} {B} f (z ∷ xs) x y i e = by (f z) refl i (λ j. among_filter f xs x y j e)
-  where
-    by : (o : Option B) → f z ≡ o → Among x (z ∷ xs) → (Among x xs → Among y (filter_map f xs)) → Among y (cons_option o (filter_map f xs))
-    by None t (inl q) ih = none_some y (sym t ∙ ap f q ∙ e)
-    by None t (inr j) ih = ih j
-    by (Some u) t (inl q) ih = inl (some_same u y (sym t ∙ ap f q ∙ e))
-    by (Some u) t (inr j) ih = inr (ih j)
 
 filter_among : {A B : Type 0} (f : A → Option B) (xs : List A) (y : B) → Among y (filter_map f xs) → (x : A) × Among x xs × (f x ≡ Some y)
 filter_among f [] y i = absurd i

@@ -2,3 +2,4 @@ pub mod Acts
 pub mod Fresh
 pub mod NextTicks
 pub mod Jobs
+pub mod Sizes

@@ -4,6 +4,7 @@ ghost use Rattle.next_laws.specs.Acts.{ActsStill, FinishesStill, ActIsNew};
 ghost use Rattle.next_laws.specs.Fresh.{FreshActsAreDue};
 ghost use Rattle.next_laws.specs.NextTicks.{NextTickIsNext};
 ghost use Rattle.next_laws.specs.Jobs.{UndisturbedGoesWell, StillRoundIsIdle};
+ghost use Rattle.next_laws.specs.Sizes.{ReadsLeaveFewer, RefusalsLeaveFewer, CallsAreBounded, UndisturbedEnds};
 
 /// What a worker does next, by views of a history, is justified wherever it can be accepted.
 pub fn acts_still()
@@ -38,4 +39,24 @@ pub fn undisturbed_goes_well()
 /// A round in which no entry came leaves the state idle.
 pub fn still_round_is_idle()
     ensures { StillRoundIsIdle }
+{}
+
+/// Each read after which a job goes on leaves it fewer calls.
+pub fn reads_leave_fewer()
+    ensures { ReadsLeaveFewer }
+{}
+
+/// And so does each refusal.
+pub fn refusals_leave_fewer()
+    ensures { RefusalsLeaveFewer }
+{}
+
+/// The calls that are left to a job are bounded by the nodes of the tree that it has seen.
+pub fn calls_are_bounded()
+    ensures { CallsAreBounded }
+{}
+
+/// A job that nobody disturbs ends.
+pub fn undisturbed_ends()
+    ensures { UndisturbedEnds }
 {}

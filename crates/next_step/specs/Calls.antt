@@ -1,5 +1,5 @@
 -- What a call is answered at a history, and a worker's job that nobody disturbs.
-use Rattle.std.specs.Prelude.{◌≡◌, ◌<◌, Some, None}
+use Rattle.std.specs.Prelude.{◌≡◌, ℕ, ◌+◌, ◌<◌, Some, None}
 use Rattle.tree_types.specs.declared.entry.Key.{Key}
 use Rattle.meaning.specs.Answers.{Facts}
 use Rattle.history.specs.History.{version_at, grown}
@@ -44,3 +44,10 @@ pub data Undisturbed (D : Document) (w : Text) : Story → Views → Story → V
       {h i g : Story} {v u : Views} (m : Matter) (s : Seen Flow) (facts : Facts) (r : Reply) (x : Views) →
       worker_next D w v ≡ act m → v.flow ≡ Some s → AddsFor s facts m → Did h (change_of w v s facts m) r i →
       after v (act m) r ≡ goes_on x → Undisturbed D w i x g u → Undisturbed D w h v g u
+
+-- how many calls that were
+abbrev pub calls_of :
+    {D : Document} {w : Text} {h g : Story} {v u : Views} → Undisturbed D w h v g u → ℕ
+calls_of stays = 0
+calls_of (reads k r x e got on rest) = calls_of rest + 1
+calls_of (acts m s facts r x e viewed adds d on rest) = calls_of rest + 1
