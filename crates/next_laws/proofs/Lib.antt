@@ -1,0 +1,13 @@
+pub mod Firsts
+pub mod Reasons
+pub mod Acting
+pub mod Locks
+pub mod Agreeing
+pub mod Ticks
+pub mod Gets
+pub mod ContentKinds
+pub mod Keeping
+pub mod Rounds
+pub mod Falling
+pub mod Few
+pub mod Ending

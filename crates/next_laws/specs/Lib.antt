@@ -1,0 +1,5 @@
+pub mod Acts
+pub mod Fresh
+pub mod NextTicks
+pub mod Jobs
+pub mod Sizes

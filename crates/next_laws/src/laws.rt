@@ -1,0 +1,62 @@
+//! The laws, each the contract of a function that does nothing.
+
+ghost use Rattle.next_laws.specs.Acts.{ActsStill, FinishesStill, ActIsNew};
+ghost use Rattle.next_laws.specs.Fresh.{FreshActsAreDue};
+ghost use Rattle.next_laws.specs.NextTicks.{NextTickIsNext};
+ghost use Rattle.next_laws.specs.Jobs.{UndisturbedGoesWell, StillRoundIsIdle};
+ghost use Rattle.next_laws.specs.Sizes.{ReadsLeaveFewer, RefusalsLeaveFewer, CallsAreBounded, UndisturbedEnds};
+
+/// What a worker does next, by views of a history, is justified wherever it can be accepted.
+pub fn acts_still()
+    ensures { ActsStill }
+{}
+
+/// And so is what a runner does next.
+pub fn finishes_still()
+    ensures { FinishesStill }
+{}
+
+/// A fact that is next is asked for, and new.
+pub fn act_is_new()
+    ensures { ActIsNew }
+{}
+
+/// What is next by fresh views is the first that is due, and a job is done where nothing is.
+pub fn fresh_acts_are_due()
+    ensures { FreshActsAreDue }
+{}
+
+/// The least of the ticks above the clock is the next at which something is due.
+pub fn next_tick_is_next()
+    ensures { NextTickIsNext }
+{}
+
+/// A job that nobody disturbs meets no conflict, and does all that is due.
+pub fn undisturbed_goes_well()
+    ensures { UndisturbedGoesWell }
+{}
+
+/// A round in which no entry came leaves the state idle.
+pub fn still_round_is_idle()
+    ensures { StillRoundIsIdle }
+{}
+
+/// Each read after which a job goes on leaves it fewer calls.
+pub fn reads_leave_fewer()
+    ensures { ReadsLeaveFewer }
+{}
+
+/// And so does each refusal.
+pub fn refusals_leave_fewer()
+    ensures { RefusalsLeaveFewer }
+{}
+
+/// The calls that are left to a job are bounded by the nodes of the tree that it has seen.
+pub fn calls_are_bounded()
+    ensures { CallsAreBounded }
+{}
+
+/// A job that nobody disturbs ends.
+pub fn undisturbed_ends()
+    ensures { UndisturbedEnds }
+{}
