@@ -133,7 +133,7 @@ of_templates (t ∷ ts) d e s =
     (of_body t.body differs.0 named.0 short.0, of_templates ts differs.1 named.1 short.1)
 
 pub valid_are_apart : ValidAreApart
-valid_are_apart m v e = record { step_names = v.step_names; steps_differ = v.steps_differ; short = v.short; limits = e }
+valid_are_apart m v = record { step_names = v.step_names; steps_differ = v.steps_differ; short = v.short; retries = v.retries }
 
 pub bodies_apart : (m : Manifest) → NamesApart m → AllByRecursion (λ t. BodyApart t.body) m.templates
 bodies_apart m h = of_templates m.templates h.steps_differ h.step_names (both_true (is_short m.templates) (list_all (λ t. body_is_short t.body) m.templates) h.short).1

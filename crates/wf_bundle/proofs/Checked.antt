@@ -6,7 +6,7 @@ use Rattle.base_types.specs.Bytes.{is_name}
 use Rattle.base_types.specs.Names.{all_differ}
 use Rattle.wf_manifest.specs.declared.manifest.Manifest.{Manifest}
 use Rattle.wf_manifest.specs.Valid.{templates_differ, steps_differ, has_step_names, calls_are_there, entry_is_there, is_short, Valid}
-use Rattle.wf_manifest.proofs.FirstForm.{parameters_pass, calls_given, entry_given, no_task_lacks, no_mixed_spelling, no_task_circle}
+use Rattle.wf_manifest.proofs.FirstForm.{parameters_pass, retries_within, calls_given, entry_given, no_task_lacks, no_mixed_spelling, no_task_circle}
 use Rattle.field_kinds.specs.Rules as rules
 use Rattle.field_kinds.specs.Reading.{Read, ◌>>=◌}
 use Rattle.wf_bundle.specs.Checks.{asked, checked, no_tags, entry_calls_pods}
@@ -42,6 +42,7 @@ checked_valid m read e =
       entry = a6.0;
       short = read.short;
       short_parameters = parameters_pass is_short refl m read.first;
+      retries = retries_within m read.first;
       values = calls_given m read.first;
       entry_values = entry_given m read.first;
       tasks = no_task_lacks m read.first;

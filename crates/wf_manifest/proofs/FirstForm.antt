@@ -13,7 +13,7 @@ use Rattle.wf_manifest.specs.declared.templates.Body.{Body}
 use Rattle.wf_manifest.specs.declared.templates.Body.TheVariants as body
 use Rattle.wf_manifest.specs.declared.templates.Template.{Template}
 use Rattle.wf_manifest.specs.declared.manifest.Manifest.{Manifest}
-use Rattle.wf_manifest.specs.Valid.{template_named, calls_of, argument_names, hook_lists, call_lists, template_lists, parameter_lists, has_value, gives_values, hook_gives_values, call_gives_values, calls_give_values, named_gives_values, entry_gives_values, tasks_are_there, is_of_one_spelling, HasNoCircle}
+use Rattle.wf_manifest.specs.Valid.{template_named, calls_of, argument_names, hook_lists, call_lists, template_lists, parameter_lists, has_value, retry_fits, gives_values, hook_gives_values, call_gives_values, calls_give_values, named_gives_values, entry_gives_values, tasks_are_there, is_of_one_spelling, HasNoCircle}
 use Rattle.wf_manifest.specs.FirstForm.{IsPlainCall, IsPlainBody, IsPlainTemplate, IsFirstForm}
 use Rattle.wf_manifest.proofs.Each.{All-found, list_all-from_All}
 
@@ -98,6 +98,10 @@ module _ (m : Manifest) (first : IsFirstForm m) where
   no_circle (body.Steps groups) plain = tt
   no_circle (body.Dag dag) plain = absurd plain
   no_circle (body.Suspend duration) plain = absurd plain
+
+  pub retries_within : IsTrue (list_all (λ t. retry_fits t.retry) m.templates)
+  retries_within =
+      list_all-from_All (λ (t : Template). retry_fits t.retry) m.templates (All-weaker IsPlainTemplate (λ t. IsTrue (retry_fits t.retry)) (λ t plain. ap retry_fits plain.no_retry) m.templates first.plain_templates)
 
   pub no_task_lacks : IsTrue (list_all (λ t. tasks_are_there t.body) m.templates)
   no_task_lacks =

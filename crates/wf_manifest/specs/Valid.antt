@@ -4,7 +4,7 @@
 use Rattle.std.specs.Prelude.{ℕ, ◌<◌, List, [], ◌∷◌, ◌++◌, Bool, true, not, ◌&&◌, ◌||◌, Option, Some, None, is_some, is_none, IsTrue, nat_le, length, map, bytes_eq, All}
 use Rattle.std.specs.List.{list_all, list_any, find, flat_map}
 use Rattle.base_types.specs.Bytes.{is_name}
-use Rattle.base_types.specs.Limits.{most_members}
+use Rattle.base_types.specs.Limits.{most_members, most_retries}
 use Rattle.base_types.specs.Names.{is_among, all_differ}
 use Rattle.node_names.specs.Names.{is_step_name}
 use Rattle.depends_expr.specs.Expression.{Expression}
@@ -15,6 +15,7 @@ use Rattle.wf_manifest.specs.declared.calls.Call.{Call}
 use Rattle.wf_manifest.specs.declared.calls.Task.{Task}
 use Rattle.wf_manifest.specs.declared.calls.Dag.{Dag}
 use Rattle.wf_manifest.specs.declared.templates.Input.{Input}
+use Rattle.wf_manifest.specs.declared.templates.Retry.{Retry}
 use Rattle.wf_manifest.specs.declared.templates.Body.{Body}
 use Rattle.wf_manifest.specs.declared.templates.Body.TheVariants as body
 use Rattle.wf_manifest.specs.declared.templates.Template.{Template}
@@ -123,6 +124,20 @@ lists_are_short m = is_short m.templates && list_all (λ t. body_is_short t.body
 abbrev pub parameters_are_short : Manifest → Bool
 parameters_are_short m = list_all is_short (parameter_lists m)
 
+-- ---- retries (field reference, `RetryStrategy.limit`)
+
+abbrev pub limit_fits : Option ℕ → Bool
+limit_fits None = true
+limit_fits (Some limit) = nat_le limit most_retries
+
+abbrev pub retry_fits : Option Retry → Bool
+retry_fits None = true
+retry_fits (Some r) = limit_fits r.limit
+
+-- the retries that a template's limit allows are within their number
+abbrev pub retries_fit : Manifest → Bool
+retries_fit m = list_all (λ t. retry_fits t.retry) m.templates
+
 -- ---- inputs (Argo, "Parameters")
 
 -- an input has the argument of its name, a value or a default
@@ -207,6 +222,7 @@ pub record Valid (m : Manifest) : Type 0 where
   pub entry : IsTrue (entry_is_there m)
   pub short : IsTrue (lists_are_short m)
   pub short_parameters : IsTrue (parameters_are_short m)
+  pub retries : IsTrue (retries_fit m)
   pub values : IsTrue (list_all (calls_give_values m) m.templates)
   pub entry_values : IsTrue (entry_gives_values m)
   pub tasks : IsTrue (list_all (λ t. tasks_are_there t.body) m.templates)
