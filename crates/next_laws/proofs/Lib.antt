@@ -13,3 +13,4 @@ pub mod Few
 pub mod Ending
 pub mod WorkedJobs
 pub mod WorkedConflict
+pub mod Viewing
