@@ -90,7 +90,7 @@ not_removed name m (l ∷ ls) q = by (is_look name l) refl (not_removed name m l
     by true t ih = ih
     by false t ih = ap (λ b. cond b (Some l) (find (is_look m) (filter (λ l. not (is_look name l)) ls))) (ap (λ k. is_look k l) q ∙ t) ∙ ih
 
-still_looked : (name m : Text) (ls : List Look) (l : Look) → find (is_look m) (filter (λ l. not (is_look name l)) ls) ≡ Some l → find (is_look m) ls ≡ Some l
+pub still_looked : (name m : Text) (ls : List Look) (l : Look) → find (is_look m) (filter (λ l. not (is_look name l)) ls) ≡ Some l → find (is_look m) ls ≡ Some l
 still_looked name m [] l e = none_some l e
 still_looked name m (k ∷ ls) l e = by (is_look name k) (is_look m k) refl refl e (λ h. still_looked name m ls l h)
   where

@@ -11,3 +11,6 @@ pub mod Rounds
 pub mod Falling
 pub mod Few
 pub mod Ending
+pub mod WorkedJobs
+pub mod WorkedConflict
+pub mod Viewing

@@ -3,3 +3,4 @@ pub mod Fresh
 pub mod NextTicks
 pub mod Jobs
 pub mod Sizes
+pub mod Viewing

@@ -1,6 +1,7 @@
 //! The laws, each the contract of a function that does nothing.
 
 ghost use Rattle.next_laws.specs.Acts.{ActsStill, FinishesStill, ActIsNew};
+ghost use Rattle.next_laws.specs.Viewing.{ViewsStay};
 ghost use Rattle.next_laws.specs.Fresh.{FreshActsAreDue};
 ghost use Rattle.next_laws.specs.NextTicks.{NextTickIsNext};
 ghost use Rattle.next_laws.specs.Jobs.{UndisturbedGoesWell, StillRoundIsIdle};
@@ -14,6 +15,11 @@ pub fn acts_still()
 /// And so is what a runner does next.
 pub fn finishes_still()
     ensures { FinishesStill }
+{}
+
+/// The views of a job stay views of what was seen.
+pub fn views_stay()
+    ensures { ViewsStay }
 {}
 
 /// A fact that is next is asked for, and new.
