@@ -6,8 +6,7 @@ use Rattle.std.specs.Prelude.{List, [], ◌∷◌, length, Option, Some, None}
 use Rattle.std.specs.Char.{is_ascii_lowercase, is_ascii_digit}
 use Rattle.std.specs.List.{list_all}
 use Rattle.base_types.specs.Bytes.{is_name_byte}
-use Rattle.base_types.specs.Limits.{longest_workflow_name}
-use Rattle.template_reader.specs.Limits.{longest_key}
+use Rattle.base_types.specs.Limits.{longest_workflow_name, longest_config_key}
 
 -- 1 to so many
 abbrev pub has_length : ℕ → ℕ → Bool
@@ -31,7 +30,7 @@ is_key_byte b = is_name_byte b || (b == 46)
 
 -- 1 to 253 of them
 abbrev pub is_key : List ℕ → Bool
-is_key t = has_length longest_key (length t) && list_all is_key_byte t
+is_key t = has_length longest_config_key (length t) && list_all is_key_byte t
 
 -- a key of a ConfigMap
 abbrev pub config_key : List ℕ → Option (List ℕ)

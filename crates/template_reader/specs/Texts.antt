@@ -5,10 +5,11 @@ use Rattle.std.specs.Result.{result_ok}
 use Rattle.std.specs.List.{list_all}
 use Rattle.std.specs.Char.{is_ascii_digit}
 use Rattle.std.specs.Str.Parse.{digits_value}
+use Rattle.base_types.specs.Limits.{most_retries, most_factor}
 use Rattle.time_text.specs.Durations.{duration_of}
 use Rattle.wf_manifest.specs.declared.templates.Policy.{Policy}
 use Rattle.wf_manifest.specs.declared.templates.Policy.TheVariants as policy
-use Rattle.template_reader.specs.Limits.{most_digits, most_retries, least_factor, most_factor}
+use Rattle.template_reader.specs.Limits.{most_digits, least_factor}
 
 -- 1 to 4 digits
 abbrev pub is_short_number : List ℕ → Bool

@@ -4,8 +4,7 @@ ghost use Rattle.std.specs.Prelude.{◌≡◌};
 ghost use Rattle.std.specs.List.{list_all};
 ghost use Rattle.template_reader.specs.Names as names;
 
-use crate::limits::LONGEST_KEY;
-use base_types::limits::LONGEST_WORKFLOW_NAME;
+use base_types::limits::{LONGEST_CONFIG_KEY, LONGEST_WORKFLOW_NAME};
 use base_types::{Memory, Text};
 use field_kinds::Grammar;
 use std::alloc::Global;
@@ -73,7 +72,7 @@ impl Grammar for ConfigKeyText {
 fn is_key(key: &[u8]) -> bool
     ensures { result ≡ names.is_key key.now }
 {
-    has_length(LONGEST_KEY, key.len()) && are_key_bytes(key)
+    has_length(LONGEST_CONFIG_KEY, key.len()) && are_key_bytes(key)
 }
 
 fn are_key_bytes(key: &[u8]) -> bool

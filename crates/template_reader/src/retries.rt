@@ -7,8 +7,9 @@ ghost use Rattle.template_reader.specs.Templates as reads;
 ghost use Rattle.template_reader.specs.Texts as texts;
 
 use crate::bodies::{BodyKind, is_no_pod};
-use crate::limits::{LEAST_FACTOR, MOST_DIGITS, MOST_FACTOR, MOST_RETRIES};
+use crate::limits::{LEAST_FACTOR, MOST_DIGITS};
 use base_types::Memory;
+use base_types::limits::{MOST_FACTOR, MOST_RETRIES};
 use field_kinds::{
     FieldPath, Fields, Grammar, KindRefused, Object, optional, optional_by, refuse_all,
     unsupported_if,
