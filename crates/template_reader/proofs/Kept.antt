@@ -1,19 +1,14 @@
 -- What templates that are read keep of `Valid`: their lists are within their limits.
-use Rattle.std.proofs.Common.{◌≡◌, ℕ, Bool, true, List, [], ◌∷◌, ◌++◌, length, map, Option, Some, None, Ok, refl, sym, subst, ◌∙◌}
-use Rattle.std.specs.Prelude.{All, IsTrue, IfSome, ◌&&◌, codes}
-use Rattle.std.specs.List.{AllByRecursion, list_all, flat_map}
+use Rattle.std.proofs.Common.{ℕ, List, [], ◌∷◌, map, Option, Some, None, refl, subst}
+use Rattle.std.specs.Prelude.{IsTrue, ◌&&◌, codes}
+use Rattle.std.specs.List.{list_all, flat_map}
 use Rattle.std.proofs.lemmas.Bool.{and_from}
 use Rattle.base_types.specs.Limits.{most_members}
-use Rattle.serde_json.specs.Data.{Data}
-use Rattle.wf_manifest.specs.declared.calls.Call.{Call}
-use Rattle.wf_manifest.specs.declared.calls.Dag.{Dag}
 use Rattle.wf_manifest.specs.declared.templates.Input.{Input}
 use Rattle.wf_manifest.specs.declared.templates.OutputDecl.{OutputDecl}
 use Rattle.wf_manifest.specs.declared.templates.Body.{Body}
-use Rattle.wf_manifest.specs.declared.templates.Body.TheVariants as body
 use Rattle.wf_manifest.specs.declared.templates.Template.{Template}
 use Rattle.wf_manifest.specs.Valid.{calls_of, call_lists, template_lists, is_short, body_is_short}
-use Rattle.field_kinds.specs.Reading.{◌>>=◌, Kind}
 use Rattle.field_kinds.specs.Kinds.{text, json_object, object_of, list_of}
 use Rattle.field_kinds.specs.Fields.{optional, required, refused_all}
 use Rattle.field_kinds.proofs.Makes.{Makes, then_ok, ok_is, makes_object, makes_required, makes_default}

@@ -1,15 +1,13 @@
 -- What a workflow that is read keeps of `Valid`: its lists are within their limits.
-use Rattle.std.proofs.Common.{◌≡◌, ℕ, Bool, List, [], ◌∷◌, ◌++◌, map, pos, Some, None, Ok, refl, subst, ◌∙◌}
-use Rattle.std.specs.Prelude.{IsTrue, ◌&&◌, codes}
+use Rattle.std.proofs.Common.{ℕ, List, [], ◌∷◌, pos, refl, subst, ◌∙◌}
+use Rattle.std.specs.Prelude.{IsTrue, codes}
 use Rattle.std.specs.List.{AllByRecursion, list_all, flat_map}
 use Rattle.std.proofs.lemmas.Bool.{and_from}
 use Rattle.std.proofs.lemmas.List.Folds.{list_all-append}
 use Rattle.base_types.specs.Limits.{most_members}
 use Rattle.wf_manifest.specs.declared.calls.Argument.{Argument}
 use Rattle.wf_manifest.specs.declared.templates.Template.{Template}
-use Rattle.wf_manifest.specs.declared.manifest.Manifest.{Manifest}
 use Rattle.wf_manifest.specs.Valid.{argument_names, template_lists, is_short, body_is_short}
-use Rattle.field_kinds.specs.Reading.{◌>>=◌, Kind}
 use Rattle.field_kinds.specs.Kinds.{text, whole_in, object_of, list_of}
 use Rattle.field_kinds.specs.Fields.{required, default, written_text}
 use Rattle.field_kinds.proofs.Makes.{Makes, then_ok, ok_is, makes_object, makes_required}
@@ -22,7 +20,7 @@ use Rattle.wf_reader.specs.declared.metadata.Metadata.{Metadata}
 use Rattle.wf_reader.specs.declared.workflow.Spec.{Spec}
 use Rattle.wf_reader.specs.declared.workflow.SpecHead.{SpecHead}
 use Rattle.wf_reader.specs.Limits.{least_priority, most_priority}
-use Rattle.wf_reader.specs.Workflows.{metadata_fields, spec_refused, head_fields, spec_fields, manifest_of, workflow_fields, workflow}
+use Rattle.wf_reader.specs.Workflows.{metadata_fields, spec_refused, head_fields, spec_fields, manifest_of, workflow_fields}
 use Rattle.wf_reader.specs.Short.{IsShort, ReadsShort}
 
 -- ---- templates

@@ -1,17 +1,15 @@
 -- Rows that compute: what whole workflows read as.
-use Rattle.std.proofs.Common.{◌≡◌, ℕ, List, [], ◌∷◌, true, pos, Option, Some, None, Ok, codes, refl}
+use Rattle.std.proofs.Common.{◌≡◌, ℕ, List, [], ◌∷◌, pos, Some, None, Ok, codes, refl}
 use Rattle.std.specs.Fmt.{digits}
 use Rattle.serde_json.specs.Data.{Data, null, string, number, unsigned, array, object, Items, no_items, item, Members, no_members, member}
-use Rattle.tree_types.specs.declared.path.LockId.{LockId}
-use Rattle.tag_text.specs.declared.part.Part.TheVariants.{Plain, Tag}
 use Rattle.wf_manifest.specs.declared.manifest.Manifest.{Manifest}
 use Rattle.wf_manifest.specs.declared.templates.Body.TheVariants as body
 use Rattle.wf_manifest.specs.declared.templates.Template.{Template}
 use Rattle.field_kinds.specs.Reading.{Read, refuse_by}
 use Rattle.field_kinds.specs.Rules as rules
-use Rattle.call_reader.specs.Calls.{argument_fields, arguments_fields, sequence_fields, list_loop, loop_said, hook_fields, hooks_fields, exit_hook, continue_fields, head_fields, tail_fields, step_fields, task_fields, dag_fields}
-use Rattle.template_reader.specs.Locks.{mutex_fields, key_fields, semaphore_fields, lock_fields}
-use Rattle.template_reader.specs.Templates.{input_fields, inputs_fields, source_fields, output_fields, outputs_fields, memoize_fields, backoff_fields, retry_fields, body_in, template_refused, head_fields as template_head_fields, tail_fields as template_tail_fields, template_fields}
+use Rattle.call_reader.specs.Calls.{argument_fields, arguments_fields, sequence_fields, list_loop, loop_said, exit_hook, head_fields, tail_fields, step_fields}
+use Rattle.template_reader.specs.Locks.{mutex_fields, lock_fields}
+use Rattle.template_reader.specs.Templates.{body_in, template_refused, head_fields as template_head_fields, tail_fields as template_tail_fields, template_fields}
 use Rattle.wf_reader.specs.Workflows.{metadata_fields, spec_refused, head_fields as wf_head_fields, spec_fields, workflow_fields, workflow}
 
 -- ---- values
