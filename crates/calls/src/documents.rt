@@ -8,13 +8,13 @@ use std::alloc::Global;
 use std::test::Fail;
 use tree_types::{Params, Phase};
 use wf_bundle::{Outcomes, Plan, PlannedOutcome, PlannedPod, PlannedPods, read_form};
-use wf_reader::read_workflow;
+use wf_reader::read_first_form;
 
 /// The name, the entrypoint and the number of templates that a workflow reads as, or its first refusal.
 fn workflow(alloc: Global, text: &str) -> Result<String, Fail> {
     let value = Value::from_str(alloc, text)?;
     Ok(
-        match read_workflow(alloc, &value, &FieldPath::root(alloc)) {
+        match read_first_form(alloc, &value, &FieldPath::root(alloc)) {
             Ok(read) => format!(in alloc;
                 "{} {} {}",
                 read.name,

@@ -9,7 +9,7 @@ use Rattle.field_kinds.specs.Rules as rules
 use Rattle.field_kinds.specs.Reading.{Read, ◌>>=◌}
 use Rattle.field_kinds.specs.Fields.{required}
 use Rattle.field_kinds.proofs.Makes.{then_ok, ok_is}
-use Rattle.wf_reader.specs.Workflows.{workflow}
+use Rattle.wf_reader.specs.FirstForm.{workflow}
 use Rattle.wf_bundle.specs.declared.outcome.Plan.{Plan}
 use Rattle.wf_bundle.specs.declared.form.Form.{Form}
 use Rattle.wf_bundle.specs.PodOutcomes.{plan}

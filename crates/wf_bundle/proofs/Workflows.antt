@@ -17,10 +17,10 @@ use Rattle.field_kinds.specs.Reading.{◌>>=◌, Kind}
 use Rattle.field_kinds.specs.Kinds.{text, json_object, object_of, list_of}
 use Rattle.field_kinds.specs.Fields.{optional, required, no_second, only}
 use Rattle.field_kinds.proofs.Makes.{Makes, then_ok, ok_is, makes_object, makes_list, makes_list-length, makes_required}
-use Rattle.wf_reader.specs.declared.bodies.BodyKind.{BodyKind}
-use Rattle.wf_reader.specs.declared.bodies.BodyKind.TheVariants as field
-use Rattle.wf_reader.specs.declared.workflow.Spec.{Spec}
-use Rattle.wf_reader.specs.Workflows.{step_fields, group, groups, first_body, is_container, body_by, body_in, template_fields, metadata_fields, spec_fields, manifest_of, workflow_fields, workflow}
+use Rattle.wf_reader.specs.declared.first_bodies.BodyKind.{BodyKind}
+use Rattle.wf_reader.specs.declared.first_bodies.BodyKind.TheVariants as field
+use Rattle.wf_reader.specs.declared.first_form.FirstSpec.{FirstSpec}
+use Rattle.wf_reader.specs.FirstForm.{step_fields, group, groups, first_body, is_container, body_by, body_in, template_fields, metadata_fields, spec_fields, manifest_of, workflow_fields, workflow}
 
 -- a short list, of which this holds of each member
 abbrev ShortOf : {A : Type 0} → (A → Type 0) → List A → Type 0
@@ -110,13 +110,13 @@ template_made at d t e =
 
 -- ---- workflows
 
-abbrev spec_of : List ℕ → List Template → Spec
+abbrev spec_of : List ℕ → List Template → FirstSpec
 spec_of entrypoint templates = record { entrypoint = entrypoint; templates = templates }
 
 abbrev TemplatesMade : List Template → Type 0
 TemplatesMade ts = ShortOf IsShortTemplate ts
 
-abbrev SpecMade : Spec → Type 0
+abbrev SpecMade : FirstSpec → Type 0
 SpecMade s = TemplatesMade s.templates
 
 spec_made : Makes spec_fields SpecMade
@@ -133,7 +133,7 @@ pub record IsRead (m : Manifest) : Type 0 where
   pub first : IsFirstForm m
   pub short : IsTrue (lists_are_short m)
 
-manifest_made : (name : List ℕ) (s : Spec) → SpecMade s → IsRead (manifest_of name s)
+manifest_made : (name : List ℕ) (s : FirstSpec) → SpecMade s → IsRead (manifest_of name s)
 manifest_made name s made = record {
   first = record {
     no_exit_handler = refl;

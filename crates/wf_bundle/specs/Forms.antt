@@ -6,7 +6,7 @@ use Rattle.json_fields.specs.Kinds as is
 use Rattle.field_kinds.specs.Rules as rules
 use Rattle.field_kinds.specs.Reading.{Read, ◌>>=◌, Kind, refuse_by, or_wrong}
 use Rattle.field_kinds.specs.Fields.{required}
-use Rattle.wf_reader.specs.Workflows.{workflow}
+use Rattle.wf_reader.specs.FirstForm.{workflow}
 use Rattle.wf_bundle.specs.declared.form.Form.{Form}
 use Rattle.wf_bundle.specs.declared.outcome.Plan.{Plan}
 use Rattle.wf_bundle.specs.PodOutcomes.{plan}

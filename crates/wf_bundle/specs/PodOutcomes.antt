@@ -7,7 +7,7 @@ use Rattle.tree_types.specs.Phases.{is_end}
 use Rattle.field_kinds.specs.Reading.{◌>>=◌, Kind}
 use Rattle.field_kinds.specs.Kinds.{text, of, object_of, all_of}
 use Rattle.field_kinds.specs.Fields.{required, default, only}
-use Rattle.wf_reader.specs.Names.{workflow_name}
+use Rattle.template_reader.specs.Names.{resource_name}
 use Rattle.wf_bundle.specs.declared.ends.PodEnd.{PodEnd}
 use Rattle.wf_bundle.specs.declared.ends.PodEnd.TheVariants.{Succeeded, Failed, Error}
 use Rattle.wf_bundle.specs.declared.outcome.PlannedOutcome.{PlannedOutcome}
@@ -56,7 +56,7 @@ unfoldable pub pod_fields : Kind PlannedPod
 pod_fields at d = do
   _ ← only (codes "phase" ∷ codes "workflow" ∷ codes "node" ∷ []) at d
   outcome ← outcome_said at d
-  workflow ← required (of workflow_name text) (codes "workflow") at d
+  workflow ← required (of resource_name text) (codes "workflow") at d
   node ← required text (codes "node") at d
   Ok (record { workflow = workflow; node = node; outcome = outcome })
 

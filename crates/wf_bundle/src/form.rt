@@ -20,7 +20,7 @@ use json_fields::FieldPath;
 use serde_json::Value;
 use std::alloc::Global;
 use wf_manifest::Manifest;
-use wf_reader::read_workflow;
+use wf_reader::read_first_form;
 
 /// A document of the form.
 #[derive(Drop)]
@@ -65,7 +65,7 @@ fn form_by(alloc: Global, workflow: &Value, outcomes: &Value) -> Result<Form, Ki
     let root = FieldPath::root(alloc);
     asked(alloc, UNKNOWN_KIND, is_workflow(workflow))?;
     asked(alloc, UNKNOWN_KIND, says(outcomes, "kind", "PodOutcomes"))?;
-    let manifest = read_workflow(alloc, workflow, &root)?;
+    let manifest = read_first_form(alloc, workflow, &root)?;
     checked(alloc, &manifest)?;
     let plan = read_plan(alloc, outcomes, &root)?;
     Ok(Form {

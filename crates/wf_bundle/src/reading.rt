@@ -15,7 +15,7 @@ use field_kinds::{
 use json_fields::FieldPath;
 use serde_json::Value;
 use std::alloc::Global;
-use wf_reader::WorkflowName;
+use template_reader::ResourceName;
 
 fn outcome_by(alloc: Global, end: PodEnd) -> PlannedOutcome
     ensures { result ≡ reads.outcome_by end }
@@ -74,7 +74,7 @@ impl Fields for PlannedPod {
         only(pod, &["phase", "workflow", "node"], at)?;
         let outcome = outcome_said(alloc, pod, at)?;
         Ok(PlannedPod {
-            workflow: required_text_by::<WorkflowName>(alloc, pod, "workflow", at)?,
+            workflow: required_text_by::<ResourceName>(alloc, pod, "workflow", at)?,
             node: required_text(alloc, pod, "node", at)?,
             outcome,
         })

@@ -1,10 +1,13 @@
-//! What a `Workflow` resource reads as, for the members that are built: its templates with pods and steps.
+//! What a `Workflow` resource reads as: a whole one, and one of the first form, which has pods and steps alone.
 #![tactic(auto)]
 
-mod bodies;
-mod names;
-mod templates;
+mod first_bodies;
+mod first_form;
+mod first_templates;
+pub mod law;
+pub mod limits;
+mod metadata;
 mod workflow;
 
-pub use names::WorkflowName;
+pub use first_form::read_first_form;
 pub use workflow::read_workflow;

@@ -1,11 +1,11 @@
-//! Templates and their steps.
+//! Templates of the first form and their steps.
 
 ghost use Rattle.std.specs.Prelude.{◌≡◌};
 ghost use Rattle.serde_json.specs.View.{view};
 ghost use Rattle.field_kinds.specs.Refusing.{Reads};
-ghost use Rattle.wf_reader.specs.Workflows as reads;
+ghost use Rattle.wf_reader.specs.FirstForm as reads;
 
-use crate::bodies::{BodyKind, first_body, is_container};
+use crate::first_bodies::{BodyKind, first_body, is_container};
 use base_types::List;
 use base_types::limits::MOST_MEMBERS;
 use field_kinds::rules::MISSING;
@@ -27,7 +27,7 @@ impl Fields for StepFields {
 
     ghost fields = { λ _. reads.step_fields };
 
-    #[tactic(auto, unfolding(crate::specs::Workflows::step_fields))]
+    #[tactic(auto, unfolding(crate::specs::FirstForm::step_fields))]
     fn read_fields(
         alloc: Global,
         step: &Value,
@@ -74,7 +74,7 @@ fn body_by(
     }
 }
 
-#[tactic(auto, unfolding(crate::specs::Workflows::body_in))]
+#[tactic(auto, unfolding(crate::specs::FirstForm::body_in))]
 fn body_in(
     alloc: Global,
     kind: Option<BodyKind>,
@@ -98,7 +98,7 @@ impl Fields for TemplateFields {
 
     ghost fields = { λ _. reads.template_fields };
 
-    #[tactic(auto, unfolding(crate::specs::Workflows::template_fields))]
+    #[tactic(auto, unfolding(crate::specs::FirstForm::template_fields))]
     fn read_fields(
         alloc: Global,
         template: &Value,

@@ -1,8 +1,8 @@
-//! Which body a template has.
+//! Which body a template of the first form has.
 
 ghost use Rattle.std.specs.Prelude.{◌≡◌};
 ghost use Rattle.serde_json.specs.View.{view};
-ghost use Rattle.wf_reader.specs.Workflows.{first_body, is_container};
+ghost use Rattle.wf_reader.specs.FirstForm.{first_body, is_container};
 
 use field_kinds::has;
 use serde_json::Value;

@@ -1,0 +1,2 @@
+mod DependsMeaning
+pub mod Kept
