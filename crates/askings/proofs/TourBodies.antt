@@ -45,7 +45,9 @@ use Rattle.growth.proofs.Lines.{Every, every_append}
 use Rattle.growth.proofs.Keeping.{not_both, At, node_at, ending_ends}
 use Rattle.growth.proofs.SoundBodies.{members_laid, tasks_laid, standing_lines, task_lines, dag_lines}
 use Rattle.growth.proofs.GrowingBodies.{finished_group}
+use Rattle.growth.specs.Ticks.{place_of}
 use Rattle.askings.specs.Owners.{is_attempt}
+use Rattle.askings.specs.Ends.{SucceededByOutcome}
 use Rattle.askings.proofs.Walks.{PlacedIn, positions, Stood, stood_in, stood_as, stood_not_attempt, inside_not_exit, inside_attempt, no_lock, Within, within_child, all_guarded}
 use Rattle.askings.proofs.Tours.{Part, part_left, part_right, Quiet, Idle, over_idle, Trial, Headed, made_headed, Tour}
 use Rattle.meaning.proofs.Flattening.{lines_tried}
@@ -75,13 +77,14 @@ module _ (m : Manifest) (A : Answers) (whole : List Line) (T : Tour m A whole) (
     pub at : At p b.own.node
     pub good : Good (lines_in b)
     pub tail : is_succeeded b.own.node.phase ≡ true → Good (after_node b)
+    pub succeeded : SucceededByOutcome A b.own.node
 
-  pub alone_good : (p : Place) (k : Kind) (ph : Phase) (n : Note) → fulfilled ph ≡ true → Good (lines_in (alone p k ph n))
-  alone_good p k ph n r = T.stands (node p k ph n no_outputs) [] (over_idle (node p k ph n no_outputs) r) T.none
+  pub alone_good : (p : Place) (k : Kind) (ph : Phase) (n : Note) → fulfilled ph ≡ true → is_succeeded ph ≡ false → Good (lines_in (alone p k ph n))
+  alone_good p k ph n r f = T.stands (node p k ph n no_outputs) [] (over_idle A (node p k ph n no_outputs) r (λ e s. not_both (is_succeeded ph) (ap is_succeeded s) f)) T.none
 
   -- a node that asks for nothing, over lines
-  pub over_good : (p : Place) (n : Node) (parts : Parts) → At p n → Idle n → Good (lines_below parts) → BodyGood p (made n [] parts)
-  over_good p n parts at i g = record { at = at; good = T.stands n (lines_below parts) i g; tail = λ _. g }
+  pub over_good : (p : Place) (n : Node) (parts : Parts) → At p n → Idle A n → Good (lines_below parts) → BodyGood p (made n [] parts)
+  over_good p n parts at i g = record { at = at; good = T.stands n (lines_below parts) i g; tail = λ _. g; succeeded = i.succeeded }
 
   succeeded_note : (p : Place) (k : Kind) (o : Outputs) (lack : Option (List ℕ)) → (succeeded_node p k note.None o lack).phase ≡ Pending → (succeeded_node p k note.None o lack).note ≡ note.None
   succeeded_note p k o None e = refl
@@ -98,11 +101,12 @@ module _ (m : Manifest) (A : Answers) (whole : List Line) (T : Tour m A whole) (
   no_note p k Omitted o d e = refl
 
   -- a node of another kind
-  other_idle : (p : Place) (k : Kind) (ph : Phase) (o : Outputs) (d : Ending) → (k ≡ kind.Suspend → ⊥) → (k ≡ kind.Pod → ⊥) → Idle (ended_node p k ph note.None o d)
+  other_idle : (p : Place) (k : Kind) (ph : Phase) (o : Outputs) (d : Ending) → (k ≡ kind.Suspend → ⊥) → (k ≡ kind.Pod → ⊥) → Idle A (ended_node p k ph note.None o d)
   other_idle p k ph o d f g = record {
     suspended = λ e r. f (sym (ending_ends p k ph note.None o d).kind ∙ e);
     pod = λ e r. g (sym (ending_ends p k ph note.None o d).kind ∙ e);
     pending = no_note p k ph o d;
+    succeeded = λ e. absurd (g (sym (ending_ends p k ph note.None o d).kind ∙ e));
   }
 
   succeeded_over : (p : Place) (k : Kind) (n : Note) (o : Outputs) (lack : Option (List ℕ)) → fulfilled (succeeded_node p k n o lack).phase ≡ true
@@ -128,12 +132,32 @@ module _ (m : Manifest) (A : Answers) (whole : List Line) (T : Tour m A whole) (
   end_over Running e = not_both false e refl
 
   -- a node that ends so
-  ended_idle : (p : Place) (k : Kind) (ph : Phase) (n : Note) (o : Outputs) (d : Ending) → fulfilled ph ≡ true → Idle (ended_node p k ph n o d)
-  ended_idle p k ph n o d e = over_idle (ended_node p k ph n o d) (ending_over p k ph n o d e)
+  ended_idle : (p : Place) (k : Kind) (ph : Phase) (n : Note) (o : Outputs) (d : Ending) → fulfilled ph ≡ true → SucceededByOutcome A (ended_node p k ph n o d) → Idle A (ended_node p k ph n o d)
+  ended_idle p k ph n o d e s = over_idle A (ended_node p k ph n o d) (ending_over p k ph n o d e) s
+
+  -- it Succeeds only in that phase
+  ending_succeeds : (p : Place) (k : Kind) (ph : Phase) (n : Note) (o : Outputs) (d : Ending) → (ended_node p k ph n o d).phase ≡ Succeeded → is_succeeded ph ≡ true
+  ending_succeeds p k Succeeded n o d e = refl
+  ending_succeeds p k Pending n o d e = ap is_succeeded e
+  ending_succeeds p k Running n o d e = ap is_succeeded e
+  ending_succeeds p k Skipped n o d e = ap is_succeeded e
+  ending_succeeds p k Failed n o d e = ap is_succeeded e
+  ending_succeeds p k Error n o d e = ap is_succeeded e
+  ending_succeeds p k Omitted n o d e = ap is_succeeded e
+
+  at_place : (p : Place) (n : Node) → At p n → place_of n ≡ p
+  at_place p n a = λ i. record { sels = (a.path i).sels; name = a.name i; depth = a.depth i }
+
+  -- a pod that ended so has Succeeded by its outcome
+  ended_succeeds : (p : Place) (o : Note × Outcome) (d : Ending) → A.outcome p ≡ Some o → SucceededByOutcome A (ended_node p kind.Pod o.1.phase o.0 (outputs_of o.1) d)
+  ended_succeeds p o d e k s h =
+      let n : Node = ended_node p kind.Pod o.1.phase o.0 (outputs_of o.1) d in
+      let at : p ≡ place_of n = sym (at_place p n (ending_ends p kind.Pod o.1.phase o.0 (outputs_of o.1) d).at) in
+      (o, subst (λ (q : Place). A.outcome q ≡ Some o) at e, ending_succeeds p kind.Pod o.1.phase o.0 (outputs_of o.1) d s)
 
   -- a node that runs
   open_good : (p : Place) (n : Node) (ws : List Want) (parts : Parts) → At p n → is_succeeded n.phase ≡ false → Good (lines_in (made n ws parts)) → BodyGood p (made n ws parts)
-  open_good p n ws parts at r g = record { at = at; good = g; tail = λ s. not_both (is_succeeded n.phase) s r }
+  open_good p n ws parts at r g = record { at = at; good = g; tail = λ s. not_both (is_succeeded n.phase) s r; succeeded = λ k s. not_both (is_succeeded n.phase) (ap is_succeeded s) r }
 
   -- things in a row
   pub rows_good : {Y : Type 0} (L : Laid Y) (i : ℕ) (ys : List Y) → All (λ j y. GoodPart (L.one j y)) i ys → GoodPart (L.rows i ys)
@@ -146,7 +170,7 @@ module _ (m : Manifest) (A : Answers) (whole : List Line) (T : Tour m A whole) (
 
   pub pod_good : (p : Place) (ds : List OutputDecl) (o : Option (Note × Outcome)) → A.outcome p ≡ o → Within T.Known p.sels → T.Known p.sels → PartOf (lines_in (pod_by p ds o)) → BodyGood p (pod_by p ds o)
   pod_good p ds None e w h f = open_good p (node p kind.Pod Running note.None no_outputs) (want.Pod (path p.sels) ∷ []) nothing (node_at p kind.Pod Running note.None no_outputs) refl (T.pod p e (all_guarded T.Known own p.sels w h) f)
-  pod_good p ds (Some o) e w h f = over_good p (ended_node p kind.Pod o.1.phase o.0 (outputs_of o.1) (completed ds (outputs_of o.1))) nothing (ending_ends p kind.Pod o.1.phase o.0 (outputs_of o.1) (completed ds (outputs_of o.1))).at (ended_idle p kind.Pod o.1.phase o.0 (outputs_of o.1) (completed ds (outputs_of o.1)) (end_over o.1.phase o.1.ended)) T.none
+  pod_good p ds (Some o) e w h f = over_good p (ended_node p kind.Pod o.1.phase o.0 (outputs_of o.1) (completed ds (outputs_of o.1))) nothing (ending_ends p kind.Pod o.1.phase o.0 (outputs_of o.1) (completed ds (outputs_of o.1))).at (ended_idle p kind.Pod o.1.phase o.0 (outputs_of o.1) (completed ds (outputs_of o.1)) (end_over o.1.phase o.1.ended) (ended_succeeds p o (completed ds (outputs_of o.1)) e)) T.none
 
   pod_trial : (p : Place) (ds : List OutputDecl) (o : Option (Note × Outcome)) → Every Trial (lines_in (pod_by p ds o))
   pod_trial p ds None = (tt, (tt, tt))
@@ -225,9 +249,9 @@ module _ (m : Manifest) (A : Answers) (whole : List Line) (T : Tour m A whole) (
     retry_at true = node_at p kind.Retry the.last.own.node.phase note.None the.last.own.node.outputs
     retry_at false = node_at p kind.Retry Running note.None no_outputs
 
-    retry_idle : (over : Bool) → Idle (retry_node p the over)
-    retry_idle true = record { suspended = λ e r. absurd (cc e); pod = λ e r. absurd (cc e); pending = λ r. refl }
-    retry_idle false = record { suspended = λ e r. absurd (cc e); pod = λ e r. absurd (cc e); pending = λ r. refl }
+    retry_idle : (over : Bool) → Idle A (retry_node p the over)
+    retry_idle true = record { suspended = λ e r. absurd (cc e); pod = λ e r. absurd (cc e); pending = λ r. refl; succeeded = λ e. absurd (cc e) }
+    retry_idle false = record { suspended = λ e r. absurd (cc e); pod = λ e r. absurd (cc e); pending = λ r. refl; succeeded = λ e. absurd (cc e) }
 
     shown_good : (over : Bool) (next : Option ℕ) → the.over ≡ over → the.next ≡ next → PartOf (lines_in (Shown over next)) → BodyGood p (Shown over next)
     shown_good over None e n f = over_good p (retry_node p the over) (parts_of None) (retry_at over) (retry_idle over) (subst Good (sym (laid None)) (T.both (lines_of the.all) [] ((tried (further r) 0 None).good (part_left whole (lines_of the.all) [] (subst PartOf (laid None) (part_right whole (Stands (retry_node p the over) ∷ []) (lines_below (parts_of None)) f)))) T.none))
@@ -260,11 +284,11 @@ module _ (m : Manifest) (A : Answers) (whole : List Line) (T : Tour m A whole) (
     run_good (Some n) (Some armed) e f = open_good p running _ nothing run_at refl (T.timer p armed _ not_attempt e f)
 
     suspend_by_good : (n : Option ℕ) (b : Bool) → PartOf (lines_in (suspend_by p ds n (A.armed p.sels) b)) → BodyGood p (suspend_by p ds n (A.armed p.sels) b)
-    suspend_by_good n true f = over_good p (ended_node p kind.Suspend Succeeded note.None no_outputs (defaulted ds)) nothing (ending_ends p kind.Suspend Succeeded note.None no_outputs (defaulted ds)).at (ended_idle p kind.Suspend Succeeded note.None no_outputs (defaulted ds) refl) T.none
+    suspend_by_good n true f = over_good p (ended_node p kind.Suspend Succeeded note.None no_outputs (defaulted ds)) nothing (ending_ends p kind.Suspend Succeeded note.None no_outputs (defaulted ds)).at (ended_idle p kind.Suspend Succeeded note.None no_outputs (defaulted ds) refl (λ e. absurd (cc (sym (ending_ends p kind.Suspend Succeeded note.None no_outputs (defaulted ds)).kind ∙ e)))) T.none
     suspend_by_good n false f = run_good n (A.armed p.sels) refl f
 
     suspended_good : (x : Found (Option ℕ)) → PartOf (lines_in (suspended A p ds x)) → BodyGood p (suspended A p ds x)
-    suspended_good (Err fault) f = over_good p (node p kind.Suspend Error fault no_outputs) nothing (node_at p kind.Suspend Error fault no_outputs) (over_idle (node p kind.Suspend Error fault no_outputs) refl) T.none
+    suspended_good (Err fault) f = over_good p (node p kind.Suspend Error fault no_outputs) nothing (node_at p kind.Suspend Error fault no_outputs) (over_idle A (node p kind.Suspend Error fault no_outputs) refl (λ e. absurd (cc e))) T.none
     suspended_good (Ok n) f = suspend_by_good n (A.due p.sels || A.resumed p.sels) f
 
     pub suspend_good : (o : Option (List TagPart)) → PartOf (lines_in (suspend_made A p s ds o)) → BodyGood p (suspend_made A p s ds o)
@@ -302,7 +326,7 @@ module _ (m : Manifest) (A : Answers) (whole : List Line) (T : Tour m A whole) (
       group_quiet e = (tt, rows_quiet members_laid 0 ms (members_quiet 0 ms (all_numbered (member run g s) (λ j x. x.1.own.finished ≡ true → Every Quiet (lines_in x.1)) 0 cs (λ j c. quiet (codes "steps.") (member_place g j c) s c)) (finished_group (all_finished (makings ms)) _ e)))
 
       pub group_good : GoodPart (lines_in (group_made g ms))
-      group_good f = T.guarded g (group_made g ms) (no_lock m g.sels (of_group cs) (A.granted g.sels ≡ true) stood refl) (made_headed g group_node [] (row_of (makings ms)) (node_at g kind.StepGroup (group_phase ms) note.None no_outputs)) group_quiet f (λ h. T.stands group_node (lines_of (makings ms)) (record { suspended = λ e r. absurd (cc e); pod = λ e r. absurd (cc e); pending = λ r. refl }) (rows_good members_laid 0 ms (all_from (member run g s) (λ j c. slice_get cs j ≡ Some c) (λ j x. GoodPart (lines_in x.1)) 0 cs (member_good h) (positions cs)) (part_right whole (Stands group_node ∷ []) (lines_of (makings ms)) f)))
+      group_good f = T.guarded g (group_made g ms) (no_lock m g.sels (of_group cs) (A.granted g.sels ≡ true) stood refl) (made_headed g group_node [] (row_of (makings ms)) (node_at g kind.StepGroup (group_phase ms) note.None no_outputs)) group_quiet f (λ h. T.stands group_node (lines_of (makings ms)) (record { suspended = λ e r. absurd (cc e); pod = λ e r. absurd (cc e); pending = λ r. refl; succeeded = λ e. absurd (cc e) }) (rows_good members_laid 0 ms (all_from (member run g s) (λ j c. slice_get cs j ≡ Some c) (λ j x. GoodPart (lines_in x.1)) 0 cs (member_good h) (positions cs)) (part_right whole (Stands group_node ∷ []) (lines_of (makings ms)) f)))
 
     module _ (p : Place) (t : Template) (hook : Option Hook) (all : List (List Call)) (is : t.body ≡ body.Steps all) (a : Placed p hook t) where
       group_stood : (i : ℕ) (cs : List Call) → slice_get all i ≡ Some cs → Stood m (group_place p i).sels (of_group cs)
@@ -349,7 +373,7 @@ module _ (m : Manifest) (A : Answers) (whole : List Line) (T : Tour m A whole) (
         free_good seen = free_by_good seen (not d.fail_fast || A.begun (task_place p i x).sels)
 
         decided_good : (at : Look) (w : Expression) (b : Bool) → StandGood (decided_by A run p s d at i x w b)
-        decided_good at w false = λ f. alone_good (task_place p i x) kind.Skipped Omitted note.DependsFalse refl
+        decided_good at w false = λ f. alone_good (task_place p i x) kind.Skipped Omitted note.DependsFalse refl refl
         decided_good at w true = free_good (tags_before at (named w))
 
         waits_good : (at : Look) (w : Expression) (b : Bool) → StandGood (waits_by A run p s d at i x w b)

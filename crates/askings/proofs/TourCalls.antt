@@ -121,16 +121,16 @@ module _ (m : Manifest) (A : Answers) (whole : List Line) (T : Tour m A whole) (
         let x : Line = Asks (want.Save (path p.sels) c.cache key b.own.node.outputs) in
         let part : PartOf (lines_in b) = λ n i. f n (any_behind (IsNode n) x (lines_in b) i) in
         let y = h part in
-        T.save b.own.node p.sels b.own.node.outputs c key (after_node m A whole T own b) y.at.path refl (succeeded b.own.node.phase s) e (y.tail s) part
+        T.save b.own.node p.sels b.own.node.outputs c key (after_node m A whole T own b) y.at.path refl (succeeded b.own.node.phase s) e y.succeeded (y.tail s) part
 
     module _ (t : Template) (hook : Option Hook) where
       remembered_good : (p : Place) (s : Scope) (c : Memoize) (key : List ℕ) → t.memoize ≡ Some c → SetAt p hook t → (o : Option MemoAnswer) → GoodPart (lines_in (remembered A run p s t c key o))
       remembered_good p s c key e a None f = T.look p (kind_of t) c key (ap memo_of_spot a.stood.is ∙ e) f
       remembered_good p s c key e a (Some None) f = saving_good p c key (body_made A run p s t) _ (ap memo_of_spot a.stood.is ∙ e) refl (body_good p s t hook a t.retry t.body refl) f
-      remembered_good p s c key e a (Some (Some o)) f = T.stands (node p (kind_of t) Succeeded (note.Hit c.cache key) o) [] (over_idle (node p (kind_of t) Succeeded (note.Hit c.cache key) o) refl) T.none
+      remembered_good p s c key e a (Some (Some o)) f = T.stands (node p (kind_of t) Succeeded (note.Hit c.cache key) o) [] (over_idle A (node p (kind_of t) Succeeded (note.Hit c.cache key) o) refl (λ k r h. absurd (not_both true refl h))) T.none
 
       keyed_good : (p : Place) (s : Scope) (c : Memoize) → t.memoize ≡ Some c → SetAt p hook t → (k : Found (List ℕ)) → GoodPart (lines_in (keyed A run p s t c k))
-      keyed_good p s c e a (Err fault) f = alone_good m A whole T own p (kind_of t) Error fault refl
+      keyed_good p s c e a (Err fault) f = alone_good m A whole T own p (kind_of t) Error fault refl refl
       keyed_good p s c e a (Ok key) f = remembered_good p s c key e a (A.memo p.sels) f
 
       memo_good : (p : Place) (s : Scope) → SetAt p hook t → (o : Option Memoize) → t.memoize ≡ o → GoodPart (lines_in (memo_made A run p s t o))
@@ -160,11 +160,11 @@ module _ (m : Manifest) (A : Answers) (whole : List Line) (T : Tour m A whole) (
 
     module _ (p : Place) (hook : Option Hook) (w : Within T.Known p.sels) (follow : Made → Made) (after : (b : Made) (t : Template) → Stood m p.sels (of_template t hook) → GoodPart (lines_in b) → GoodPart (lines_in (follow b))) where
       entry_good : (t : Template) → Stood m p.sels (of_template t hook) → BodyFits paths t.body → (s : Found Scope) → GoodPart (lines_in (entry A run p t follow s))
-      entry_good t stood fits (Err fault) f = alone_good m A whole T own p (kind_of t) Error fault refl
+      entry_good t stood fits (Err fault) f = alone_good m A whole T own p (kind_of t) Error fault refl refl
       entry_good t stood fits (Ok inner) f = after (template_made A run p inner t) t stood (template_good t hook p inner fits stood w t.lock refl) f
 
       call_by_good : (s : Scope) (given : List Argument) (o : Option Template) → FoundFits paths o → Stood m p.sels (template_spot hook o) → GoodPart (lines_in (call_by A flow run p s given follow o))
-      call_by_good s given None fits stood f = alone_good m A whole T own p kind.Pod Error note.None refl
+      call_by_good s given None fits stood f = alone_good m A whole T own p kind.Pod Error note.None refl refl
       call_by_good s given (Some t) fits stood f = entry_good t stood fits (template_scope flow s given t.inputs) f
 
       call_good_by : (s : Scope) (n : List ℕ) (given : List Argument) → Stood m p.sels (spot_named m n hook) → GoodPart (lines_in (call_of_template m A flow run p s n given follow))
@@ -193,8 +193,8 @@ module _ (m : Manifest) (A : Answers) (whole : List Line) (T : Tour m A whole) (
     StopGood (Some b) = Good (lines_in b)
 
     stopped_by_good : (p : Place) (k : Kind) (r : Found Bool) → StopGood (stopped_by p k r)
-    stopped_by_good p k (Err fault) = alone_good m A whole T own p k Error fault refl
-    stopped_by_good p k (Ok false) = alone_good m A whole T own p kind.Skipped Skipped note.WhenFalse refl
+    stopped_by_good p k (Err fault) = alone_good m A whole T own p k Error fault refl refl
+    stopped_by_good p k (Ok false) = alone_good m A whole T own p kind.Skipped Skipped note.WhenFalse refl refl
     stopped_by_good p k (Ok true) = tt
 
     stopped_if_good : (p : Place) (k : Kind) (s : Scope) (t : List TagPart) (b : Bool) → StopGood (stopped_if b p k s t)
@@ -243,12 +243,12 @@ module _ (m : Manifest) (A : Answers) (whole : List Line) (T : Tour m A whole) (
       loop_quiet : (ds : List Data) → (loop_of ds).own.finished ≡ true → Every Quiet (lines_in (loop_of ds))
       loop_quiet ds e = (tt, rows_quiet m A whole T own items_laid 0 (items_of ds) (items_quiet 0 (items_of ds) (all_numbered (item_made m A flow run prefix p s c) (λ j x. x.own.finished ≡ true → Every Quiet (lines_in x)) 0 ds (λ j x. one_quiet prefix (item_place p j x) (item_tags x ++ s) c)) (loop_over outputs_of (items_of ds) (all_finished (items_of ds)) e)))
 
-      loop_idle : (ds : List Data) → Idle (top_of ds)
+      loop_idle : (ds : List Data) → Idle A (top_of ds)
       loop_idle ds = go (all_finished (items_of ds))
         where
-          go : (b : Bool) → Idle (loop_node p outputs_of (items_of ds) b)
-          go true = record { suspended = λ e r. absurd (cc e); pod = λ e r. absurd (cc e); pending = λ r. refl }
-          go false = record { suspended = λ e r. absurd (cc e); pod = λ e r. absurd (cc e); pending = λ r. refl }
+          go : (b : Bool) → Idle A (loop_node p outputs_of (items_of ds) b)
+          go true = record { suspended = λ e r. absurd (cc e); pod = λ e r. absurd (cc e); pending = λ r. refl; succeeded = λ e. absurd (cc e) }
+          go false = record { suspended = λ e r. absurd (cc e); pod = λ e r. absurd (cc e); pending = λ r. refl; succeeded = λ e. absurd (cc e) }
 
       loop_good : (ds : List Data) → GoodPart (lines_in (loop_of ds))
       loop_good ds f =
@@ -257,8 +257,8 @@ module _ (m : Manifest) (A : Answers) (whole : List Line) (T : Tour m A whole) (
           T.guarded p (loop_of ds) (no_lock m p.sels (of_loop c) (A.granted p.sels ≡ true) stood refl) head (loop_quiet ds) f (λ h. T.stands (top_of ds) (lines_of ms) (loop_idle ds) (rows_good m A whole T own items_laid 0 ms (all_numbered (item_made m A flow run prefix p s c) (λ j y. GoodPart (lines_in y)) 0 ds (λ j x. one_good prefix (item_place p j x) (item_tags x ++ s) c (within_child T.Known p.sels (Item j) w h) (stood_in m p.sels (Item j) (of_loop c) stood))) (part_right whole (Stands (top_of ds) ∷ []) (lines_of ms) f)))
 
     looped_good : (prefix : List ℕ) (p : Place) (s : Scope) (c : Call) → Within T.Known p.sels → Stood m p.sels (of_loop c) → (r : Found (List Data)) → GoodPart (lines_in (looped m A flow run prefix p s c r))
-    looped_good prefix p s c w stood (Err fault) f = alone_good m A whole T own p kind.TaskGroup Error fault refl
-    looped_good prefix p s c w stood (Ok []) f = alone_good m A whole T own p kind.Skipped Skipped note.NoItems refl
+    looped_good prefix p s c w stood (Err fault) f = alone_good m A whole T own p kind.TaskGroup Error fault refl refl
+    looped_good prefix p s c w stood (Ok []) f = alone_good m A whole T own p kind.Skipped Skipped note.NoItems refl refl
     looped_good prefix p s c w stood (Ok (d ∷ ds)) f = loop_good prefix p s c w stood (d ∷ ds) f
 
     each_good : (prefix : List ℕ) (p : Place) (s : Scope) (c : Call) → Within T.Known p.sels → (l : Option Loop) → Stood m p.sels (called_spot m c l) → GoodPart (lines_in (each_made m A flow run prefix p s c l))
@@ -274,7 +274,7 @@ module _ (m : Manifest) (A : Answers) (whole : List Line) (T : Tour m A whole) (
   calls_of B flow n = calls m B flow n
 
   calls_good : (flow : Scope) (n : ℕ) → RunGood m A whole T own (calls m A flow n)
-  calls_good flow zero = λ prefix p s c stood w f. alone_good m A whole T own p (kind_named m c.template) Error note.TooDeep refl
+  calls_good flow zero = λ prefix p s c stood w f. alone_good m A whole T own p (kind_named m c.template) Error note.TooDeep refl refl
   calls_good flow (suc n) = call_good flow (calls m A flow n) (calls m (answered A) flow n) (calls_sound paths A m (all_fit m.templates) flow n) (calls_sound paths (answered A) m (all_fit m.templates) flow n) (calls_grew m A (answered A) (answered_more A) flow n) (calls_good flow n)
 
   too_long : (x y : Sel) (r t : Sels) → x ∷ [] ≡ y ∷ (r ++ t) → r ++ t ≡ []
@@ -320,7 +320,7 @@ module _ (m : Manifest) (A : Answers) (T : Tour m A (lines m A)) where
   started_tour (Some l) e f = locked_tour l e (A.granted []) refl f
 
   by_tour : (b : Bool) → GoodLines (lines_by m A b)
-  by_tour false f = T.stands (pending_root m note.None) [] (record { suspended = λ e r. absurd (cc r); pod = λ e r. absurd (cc r); pending = λ r. refl }) T.none
+  by_tour false f = T.stands (pending_root m note.None) [] (record { suspended = λ e r. absurd (cc r); pod = λ e r. absurd (cc r); pending = λ r. refl; succeeded = λ e r. absurd (cc r) }) T.none
   by_tour true f = started_tour m.lock refl f
 
   pub tour : T.Good (lines m A)
