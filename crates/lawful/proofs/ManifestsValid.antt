@@ -3,7 +3,6 @@ use Rattle.std.proofs.Common.{◌≡◌, ℤ, sym, ◌∙◌, subst, Option, Som
 use Rattle.wf_manifest.specs.declared.manifest.Manifest.{Manifest}
 use Rattle.wf_manifest.specs.Valid.{Valid}
 use Rattle.meaning.specs.Answers.{Facts}
-use Rattle.growth.specs.Nodes.{NamesApart}
 use Rattle.history.specs.History.{Event, grown}
 use Rattle.law.specs.Documents.{Text, Document}
 use Rattle.law.specs.Contents.{Flow, Content, OfWorkflow, flow, Story, HasFlow}
@@ -29,11 +28,8 @@ valid_renamed m w created v = record {
   tasks = v.tasks;
   one_spelling = v.one_spelling;
   no_circle = v.no_circle;
+  retries = v.retries;
 }
-
--- the names of a valid manifest are apart
-pub names_apart : (m : Manifest) → Valid m → NamesApart m
-names_apart m v = record { step_names = v.step_names; steps_differ = v.steps_differ }
 
 module _ (D : Document) (valid : HasValidWorkflows D) where
   AllValid : Story → Type 0
