@@ -82,7 +82,7 @@ module _ (m : Manifest) (A : Answers) (whole : List Line) where
   abbrev ServedHere : List Want → Node → Type 0
   ServedHere ws n = Served m A (nodes_in whole) ws n
 
-  idle_served : (ws : List Want) (n : Node) → Idle whole n → Unsaved m A n → ServedHere ws n
+  idle_served : (ws : List Want) (n : Node) → Idle A whole n → Unsaved m A n → ServedHere ws n
   idle_served ws n i u = record {
     timer = λ duration armed k r d x. absurd (i.suspended k r);
     next = λ k r none. absurd (none (i.retry k r));
@@ -147,7 +147,7 @@ module _ (m : Manifest) (A : Answers) (whole : List Line) where
         let ks : List Line = Asks w ∷ [] in
         let asks : Among w (wants_in (ls ++ ks)) = among_right w ls ks (inl refl) in
         (retry_served (wants_in (ls ++ ks)) p (record { last = last; stands = x; tick = tick; due = d; asked = asks }), good_both m A (nodes_in whole) ls ks g (tt, tt)));
-    save = λ n p o c sc key ls own r e x s y g f. (
+    save = λ n p o c sc key ls own r e x s y z g f. (
         let w : Want = want.Save (path p) c.cache key o in
         let asks : Among (want.Save n.path c.cache key n.outputs) (w ∷ wants_in ls) = inl (λ i. want.Save (sym e i) c.cache key (sym x i)) in
         (saved_served (w ∷ wants_in ls) n p c e s y (record { scope = sc; is_scope = own; key = key; read = r; asked = asks }), (tt, all_more m A (nodes_in whole) (wants_in ls) (w ∷ wants_in ls) ls (λ v a. inr a) g)));

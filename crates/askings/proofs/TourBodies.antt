@@ -51,6 +51,8 @@ use Rattle.growth.proofs.Keeping.{not_both, At, node_at, ending_ends}
 use Rattle.growth.proofs.SoundBodies.{members_laid, tasks_laid, standing_lines, task_lines, dag_lines}
 use Rattle.growth.proofs.GrowingBodies.{finished_group}
 use Rattle.growth.proofs.GrowingTrees.{among_nodes}
+use Rattle.growth.specs.Ticks.{place_of}
+use Rattle.askings.specs.Ends.{SucceededByOutcome}
 use Rattle.askings.specs.Owners.{is_attempt, memo_of_spot, memo_at}
 use Rattle.askings.specs.ByTemplate.{duration_in, duration_of_spot, duration_at, retry_of_spot, AttemptStands, NextDue, IsTemplateScope}
 use Rattle.askings.proofs.Walks.{PlacedIn, positions, Stood, stood_in, stood_as, stood_not_attempt, inside_not_exit, inside_attempt, no_lock, Within, within_child, all_guarded}
@@ -82,13 +84,14 @@ module _ (m : Manifest) (A : Answers) (whole : List Line) (T : Tour m A whole) (
     pub at : At p b.own.node
     pub good : Unsaved m A b.own.node → Good (lines_in b)
     pub tail : is_succeeded b.own.node.phase ≡ true → Good (after_node b)
+    pub succeeded : SucceededByOutcome A b.own.node
 
   pub alone_good : (p : Place) (k : Kind) (ph : Phase) (n : Note) → fulfilled ph ≡ true → is_succeeded ph ≡ false → Good (lines_in (alone p k ph n))
-  alone_good p k ph n r s = T.stands (node p k ph n no_outputs) [] (over_idle whole (node p k ph n no_outputs) r) (unsucceeded m A (node p k ph n no_outputs) s) T.none
+  alone_good p k ph n r s = T.stands (node p k ph n no_outputs) [] (over_idle A whole (node p k ph n no_outputs) r (λ e c. not_both (is_succeeded ph) (ap is_succeeded c) s)) (unsucceeded m A (node p k ph n no_outputs) s) T.none
 
   -- a node that asks for nothing, over lines
-  pub over_good : (p : Place) (n : Node) (parts : Parts) → At p n → Idle whole n → Good (lines_below parts) → BodyGood p (made n [] parts)
-  over_good p n parts at i g = record { at = at; good = λ u. T.stands n (lines_below parts) i u g; tail = λ _. g }
+  pub over_good : (p : Place) (n : Node) (parts : Parts) → At p n → Idle A whole n → Good (lines_below parts) → BodyGood p (made n [] parts)
+  over_good p n parts at i g = record { at = at; good = λ u. T.stands n (lines_below parts) i u g; tail = λ _. g; succeeded = i.succeeded }
 
   succeeded_note : (p : Place) (k : Kind) (o : Outputs) (lack : Option (List ℕ)) → (succeeded_node p k note.None o lack).phase ≡ Pending → (succeeded_node p k note.None o lack).note ≡ note.None
   succeeded_note p k o None e = refl
@@ -105,12 +108,13 @@ module _ (m : Manifest) (A : Answers) (whole : List Line) (T : Tour m A whole) (
   no_note p k Omitted o d e = refl
 
   -- a node of another kind
-  other_idle : (p : Place) (k : Kind) (ph : Phase) (o : Outputs) (d : Ending) → (k ≡ kind.Suspend → ⊥) → (k ≡ kind.Pod → ⊥) → (k ≡ kind.Retry → ⊥) → Idle whole (ended_node p k ph note.None o d)
+  other_idle : (p : Place) (k : Kind) (ph : Phase) (o : Outputs) (d : Ending) → (k ≡ kind.Suspend → ⊥) → (k ≡ kind.Pod → ⊥) → (k ≡ kind.Retry → ⊥) → Idle A whole (ended_node p k ph note.None o d)
   other_idle p k ph o d f g h = record {
     suspended = λ e r. f (sym (ending_ends p k ph note.None o d).kind ∙ e);
     pod = λ e r. g (sym (ending_ends p k ph note.None o d).kind ∙ e);
     pending = no_note p k ph o d;
     retry = λ e r. absurd (h (sym (ending_ends p k ph note.None o d).kind ∙ e));
+    succeeded = λ e. absurd (g (sym (ending_ends p k ph note.None o d).kind ∙ e));
   }
 
   succeeded_over : (p : Place) (k : Kind) (n : Note) (o : Outputs) (lack : Option (List ℕ)) → fulfilled (succeeded_node p k n o lack).phase ≡ true
@@ -136,12 +140,32 @@ module _ (m : Manifest) (A : Answers) (whole : List Line) (T : Tour m A whole) (
   end_over Running e = not_both false e refl
 
   -- a node that ends so
-  ended_idle : (p : Place) (k : Kind) (ph : Phase) (n : Note) (o : Outputs) (d : Ending) → fulfilled ph ≡ true → Idle whole (ended_node p k ph n o d)
-  ended_idle p k ph n o d e = over_idle whole (ended_node p k ph n o d) (ending_over p k ph n o d e)
+  ended_idle : (p : Place) (k : Kind) (ph : Phase) (n : Note) (o : Outputs) (d : Ending) → fulfilled ph ≡ true → SucceededByOutcome A (ended_node p k ph n o d) → Idle A whole (ended_node p k ph n o d)
+  ended_idle p k ph n o d e s = over_idle A whole (ended_node p k ph n o d) (ending_over p k ph n o d e) s
+
+  -- it Succeeds only in that phase
+  ending_succeeds : (p : Place) (k : Kind) (ph : Phase) (n : Note) (o : Outputs) (d : Ending) → (ended_node p k ph n o d).phase ≡ Succeeded → is_succeeded ph ≡ true
+  ending_succeeds p k Succeeded n o d e = refl
+  ending_succeeds p k Pending n o d e = ap is_succeeded e
+  ending_succeeds p k Running n o d e = ap is_succeeded e
+  ending_succeeds p k Skipped n o d e = ap is_succeeded e
+  ending_succeeds p k Failed n o d e = ap is_succeeded e
+  ending_succeeds p k Error n o d e = ap is_succeeded e
+  ending_succeeds p k Omitted n o d e = ap is_succeeded e
+
+  at_place : (p : Place) (n : Node) → At p n → place_of n ≡ p
+  at_place p n a = λ i. record { sels = (a.path i).sels; name = a.name i; depth = a.depth i }
+
+  -- a pod that ended so has Succeeded by its outcome
+  ended_succeeds : (p : Place) (o : Note × Outcome) (d : Ending) → A.outcome p ≡ Some o → SucceededByOutcome A (ended_node p kind.Pod o.1.phase o.0 (outputs_of o.1) d)
+  ended_succeeds p o d e k s h =
+      let n : Node = ended_node p kind.Pod o.1.phase o.0 (outputs_of o.1) d in
+      let at : p ≡ place_of n = sym (at_place p n (ending_ends p kind.Pod o.1.phase o.0 (outputs_of o.1) d).at) in
+      (o, subst (λ (q : Place). A.outcome q ≡ Some o) at e, ending_succeeds p kind.Pod o.1.phase o.0 (outputs_of o.1) d s)
 
   -- a node that runs
   open_good : (p : Place) (n : Node) (ws : List Want) (parts : Parts) → At p n → is_succeeded n.phase ≡ false → Good (lines_in (made n ws parts)) → BodyGood p (made n ws parts)
-  open_good p n ws parts at r g = record { at = at; good = λ _. g; tail = λ s. not_both (is_succeeded n.phase) s r }
+  open_good p n ws parts at r g = record { at = at; good = λ _. g; tail = λ s. not_both (is_succeeded n.phase) s r; succeeded = λ k s. not_both (is_succeeded n.phase) (ap is_succeeded s) r }
 
   -- things in a row
   pub rows_good : {Y : Type 0} (L : Laid Y) (i : ℕ) (ys : List Y) → All (λ j y. GoodPart (L.one j y)) i ys → GoodPart (L.rows i ys)
@@ -154,7 +178,7 @@ module _ (m : Manifest) (A : Answers) (whole : List Line) (T : Tour m A whole) (
 
   pub pod_good : (p : Place) (ds : List OutputDecl) (o : Option (Note × Outcome)) → A.outcome p ≡ o → Within T.Known p.sels → T.Known p.sels → PartOf (lines_in (pod_by p ds o)) → BodyGood p (pod_by p ds o)
   pod_good p ds None e w h f = open_good p (node p kind.Pod Running note.None no_outputs) (want.Pod (path p.sels) ∷ []) nothing (node_at p kind.Pod Running note.None no_outputs) refl (T.pod p e (all_guarded T.Known own p.sels w h) f)
-  pod_good p ds (Some o) e w h f = over_good p (ended_node p kind.Pod o.1.phase o.0 (outputs_of o.1) (completed ds (outputs_of o.1))) nothing (ending_ends p kind.Pod o.1.phase o.0 (outputs_of o.1) (completed ds (outputs_of o.1))).at (ended_idle p kind.Pod o.1.phase o.0 (outputs_of o.1) (completed ds (outputs_of o.1)) (end_over o.1.phase o.1.ended)) T.none
+  pod_good p ds (Some o) e w h f = over_good p (ended_node p kind.Pod o.1.phase o.0 (outputs_of o.1) (completed ds (outputs_of o.1))) nothing (ending_ends p kind.Pod o.1.phase o.0 (outputs_of o.1) (completed ds (outputs_of o.1))).at (ended_idle p kind.Pod o.1.phase o.0 (outputs_of o.1) (completed ds (outputs_of o.1)) (end_over o.1.phase o.1.ended) (ended_succeeds p o (completed ds (outputs_of o.1)) e)) T.none
 
   pod_trial : (p : Place) (ds : List OutputDecl) (o : Option (Note × Outcome)) → Every Trial (lines_in (pod_by p ds o))
   pod_trial p ds None = (tt, (tt, tt))
@@ -307,12 +331,12 @@ module _ (m : Manifest) (A : Answers) (whole : List Line) (T : Tour m A whole) (
     stands_below true k f x = record { pod = x.pod; stands = among_nodes x.pod whole (f x.pod x.stands); below = x.below }
     stands_below false k f x = record { pod = x.pod; stands = among_nodes x.pod whole (f x.pod x.stands); below = x.below }
 
-    retry_idle : (over : Bool) → the.over ≡ over → the.next ≡ None → PartOf (lines_of the.all) → Idle whole (retry_node p the over)
+    retry_idle : (over : Bool) → the.over ≡ over → the.next ≡ None → PartOf (lines_of the.all) → Idle A whole (retry_node p the over)
     unfolding stands_below tried
-    retry_idle true e n f = over_idle whole (retry_node p the true) (tries.ends e)
+    retry_idle true e n f = over_idle A whole (retry_node p the true) (tries.ends e) (λ k. absurd (cc k))
     retry_idle false e n f =
         let x : Runs the = tries.runs e n in
-        record { suspended = λ e r. absurd (cc e); pod = λ e r. absurd (cc e); pending = λ r. refl; retry = λ _ _. (x.number, stands_below false x.number f x.tried, x.runs) }
+        record { suspended = λ e r. absurd (cc e); pod = λ e r. absurd (cc e); pending = λ r. refl; retry = λ _ _. (x.number, stands_below false x.number f x.tried, x.runs); succeeded = λ e. absurd (cc e) }
 
     -- the timer of the next attempt, behind the attempts
     abbrev Awaiting : ℕ → ℕ → List Line
@@ -373,11 +397,11 @@ module _ (m : Manifest) (A : Answers) (whole : List Line) (T : Tour m A whole) (
       lasts = ap duration_of_spot a.stood.is ∙ ap duration_in is
 
       suspend_by_good : (n : Option ℕ) (b : Bool) → seconds_of s o ≡ Ok n → PartOf (lines_in (suspend_by p ds n (A.armed p.sels) b)) → BodyGood p (suspend_by p ds n (A.armed p.sels) b)
-      suspend_by_good n true q f = over_good p (ended_node p kind.Suspend Succeeded note.None no_outputs (defaulted ds)) nothing (ending_ends p kind.Suspend Succeeded note.None no_outputs (defaulted ds)).at (ended_idle p kind.Suspend Succeeded note.None no_outputs (defaulted ds) refl) T.none
+      suspend_by_good n true q f = over_good p (ended_node p kind.Suspend Succeeded note.None no_outputs (defaulted ds)) nothing (ending_ends p kind.Suspend Succeeded note.None no_outputs (defaulted ds)).at (ended_idle p kind.Suspend Succeeded note.None no_outputs (defaulted ds) refl (λ e. absurd (cc (sym (ending_ends p kind.Suspend Succeeded note.None no_outputs (defaulted ds)).kind ∙ e)))) T.none
       suspend_by_good n false q f = run_good o lasts n (A.armed p.sels) q refl f
 
       suspended_good : (x : Found (Option ℕ)) → seconds_of s o ≡ x → PartOf (lines_in (suspended A p ds x)) → BodyGood p (suspended A p ds x)
-      suspended_good (Err fault) q f = over_good p (node p kind.Suspend Error fault no_outputs) nothing (node_at p kind.Suspend Error fault no_outputs) (over_idle whole (node p kind.Suspend Error fault no_outputs) refl) T.none
+      suspended_good (Err fault) q f = over_good p (node p kind.Suspend Error fault no_outputs) nothing (node_at p kind.Suspend Error fault no_outputs) (over_idle A whole (node p kind.Suspend Error fault no_outputs) refl (λ e. absurd (cc e))) T.none
       suspended_good (Ok n) q f = suspend_by_good n (A.due p.sels || A.resumed p.sels) q f
 
       pub suspend_good : PartOf (lines_in (suspend_made A p s ds o)) → BodyGood p (suspend_made A p s ds o)
@@ -415,7 +439,7 @@ module _ (m : Manifest) (A : Answers) (whole : List Line) (T : Tour m A whole) (
       group_quiet e = (tt, rows_quiet members_laid 0 ms (members_quiet 0 ms (all_numbered (member run g s) (λ j x. x.1.own.finished ≡ true → Every Quiet (lines_in x.1)) 0 cs (λ j c. quiet (codes "steps.") (member_place g j c) s c)) (finished_group (all_finished (makings ms)) _ e)))
 
       pub group_good : GoodPart (lines_in (group_made g ms))
-      group_good f = T.guarded g (group_made g ms) (no_lock m g.sels (of_group cs) (A.granted g.sels ≡ true) stood refl) (made_headed g group_node [] (row_of (makings ms)) (node_at g kind.StepGroup (group_phase ms) note.None no_outputs)) group_quiet f (λ h. T.stands group_node (lines_of (makings ms)) (record { suspended = λ e r. absurd (cc e); pod = λ e r. absurd (cc e); pending = λ r. refl; retry = λ e r. absurd (cc e) }) (unmemoized m A group_node (ap memo_of_spot stood.is)) (rows_good members_laid 0 ms (all_from (member run g s) (λ j c. slice_get cs j ≡ Some c) (λ j x. GoodPart (lines_in x.1)) 0 cs (member_good h) (positions cs)) (part_right whole (Stands group_node ∷ []) (lines_of (makings ms)) f)))
+      group_good f = T.guarded g (group_made g ms) (no_lock m g.sels (of_group cs) (A.granted g.sels ≡ true) stood refl) (made_headed g group_node [] (row_of (makings ms)) (node_at g kind.StepGroup (group_phase ms) note.None no_outputs)) group_quiet f (λ h. T.stands group_node (lines_of (makings ms)) (record { suspended = λ e r. absurd (cc e); pod = λ e r. absurd (cc e); pending = λ r. refl; retry = λ e r. absurd (cc e); succeeded = λ e. absurd (cc e) }) (unmemoized m A group_node (ap memo_of_spot stood.is)) (rows_good members_laid 0 ms (all_from (member run g s) (λ j c. slice_get cs j ≡ Some c) (λ j x. GoodPart (lines_in x.1)) 0 cs (member_good h) (positions cs)) (part_right whole (Stands group_node ∷ []) (lines_of (makings ms)) f)))
 
     module _ (p : Place) (t : Template) (hook : Option Hook) (all : List (List Call)) (is : t.body ≡ body.Steps all) (a : Placed p hook t) where
       group_stood : (i : ℕ) (cs : List Call) → slice_get all i ≡ Some cs → Stood m (group_place p i).sels (of_group cs)

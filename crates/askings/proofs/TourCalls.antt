@@ -126,13 +126,13 @@ module _ (m : Manifest) (A : Answers) (whole : List Line) (T : Tour m A whole) (
         let x : Line = Asks (want.Save (path p.sels) c.cache key b.own.node.outputs) in
         let part : PartOf (lines_in b) = λ n i. f n (any_behind (IsNode n) x (lines_in b) i) in
         let y = h part in
-        T.save b.own.node p.sels b.own.node.outputs c s key (after_node m A whole T own b) k r y.at.path refl (succeeded b.own.node.phase q) e (y.tail q) part
+        T.save b.own.node p.sels b.own.node.outputs c s key (after_node m A whole T own b) k r y.at.path refl (succeeded b.own.node.phase q) e y.succeeded (y.tail q) part
 
     module _ (t : Template) (hook : Option Hook) where
       remembered_good : (p : Place) (s : Scope) (c : Memoize) (key : List ℕ) → said s c.key ≡ Ok key → t.memoize ≡ Some c → SetAt p hook t → IsTemplateScope m A s → (o : Option MemoAnswer) → A.memo p.sels ≡ o → GoodPart (lines_in (remembered A run p s t c key o))
       remembered_good p s c key r e a k None q f = T.look p (kind_of t) c key (ap memo_of_spot a.stood.is ∙ e) f
       remembered_good p s c key r e a k (Some None) q f = saving_good p s c key (body_made A run p s t) _ k r (ap memo_of_spot a.stood.is ∙ e) refl (body_good p s t hook a k t.retry t.body refl refl) f
-      remembered_good p s c key r e a k (Some (Some o)) q f = T.stands (node p (kind_of t) Succeeded (note.Hit c.cache key) o) [] (over_idle whole (node p (kind_of t) Succeeded (note.Hit c.cache key) o) refl) (λ d y z x. absurd (cc (q, x))) T.none
+      remembered_good p s c key r e a k (Some (Some o)) q f = T.stands (node p (kind_of t) Succeeded (note.Hit c.cache key) o) [] (over_idle A whole (node p (kind_of t) Succeeded (note.Hit c.cache key) o) refl (λ k r h. absurd (not_both true refl h))) (λ d y z x. absurd (cc (q, x))) T.none
 
       keyed_good : (p : Place) (s : Scope) (c : Memoize) → t.memoize ≡ Some c → SetAt p hook t → IsTemplateScope m A s → (x : Found (List ℕ)) → said s c.key ≡ x → GoodPart (lines_in (keyed A run p s t c x))
       keyed_good p s c e a k (Err fault) r f = alone_good m A whole T own p (kind_of t) Error fault refl refl
@@ -262,12 +262,12 @@ module _ (m : Manifest) (A : Answers) (whole : List Line) (T : Tour m A whole) (
       loop_quiet : (ds : List Data) → (loop_of ds).own.finished ≡ true → Every Quiet (lines_in (loop_of ds))
       loop_quiet ds e = (tt, rows_quiet m A whole T own items_laid 0 (items_of ds) (items_quiet 0 (items_of ds) (all_numbered (item_made m A flow run prefix p s c) (λ j x. x.own.finished ≡ true → Every Quiet (lines_in x)) 0 ds (λ j x. one_quiet prefix (item_place p j x) (item_tags x ++ s) c)) (loop_over outputs_of (items_of ds) (all_finished (items_of ds)) e)))
 
-      loop_idle : (ds : List Data) → Idle whole (top_of ds)
+      loop_idle : (ds : List Data) → Idle A whole (top_of ds)
       loop_idle ds = go (all_finished (items_of ds))
         where
-          go : (b : Bool) → Idle whole (loop_node p outputs_of (items_of ds) b)
-          go true = record { suspended = λ e r. absurd (cc e); pod = λ e r. absurd (cc e); pending = λ r. refl; retry = λ e r. absurd (cc e) }
-          go false = record { suspended = λ e r. absurd (cc e); pod = λ e r. absurd (cc e); pending = λ r. refl; retry = λ e r. absurd (cc e) }
+          go : (b : Bool) → Idle A whole (loop_node p outputs_of (items_of ds) b)
+          go true = record { suspended = λ e r. absurd (cc e); pod = λ e r. absurd (cc e); pending = λ r. refl; retry = λ e r. absurd (cc e); succeeded = λ e. absurd (cc e) }
+          go false = record { suspended = λ e r. absurd (cc e); pod = λ e r. absurd (cc e); pending = λ r. refl; retry = λ e r. absurd (cc e); succeeded = λ e. absurd (cc e) }
 
       loop_good : (ds : List Data) → GoodPart (lines_in (loop_of ds))
       loop_good ds f =
@@ -339,7 +339,7 @@ module _ (m : Manifest) (A : Answers) (T : Tour m A (lines m A)) where
   started_tour (Some l) e f = locked_tour l e (A.granted []) refl f
 
   by_tour : (b : Bool) → GoodLines (lines_by m A b)
-  by_tour false f = T.stands (pending_root m note.None) [] (record { suspended = λ e r. absurd (cc r); pod = λ e r. absurd (cc r); pending = λ r. refl; retry = λ e r. absurd (cc r) }) (unsucceeded m A (pending_root m note.None) refl) T.none
+  by_tour false f = T.stands (pending_root m note.None) [] (record { suspended = λ e r. absurd (cc r); pod = λ e r. absurd (cc r); pending = λ r. refl; retry = λ e r. absurd (cc r); succeeded = λ e r. absurd (cc r) }) (unsucceeded m A (pending_root m note.None) refl) T.none
   by_tour true f = started_tour m.lock refl f
 
   pub tour : T.Good (lines m A)

@@ -33,6 +33,7 @@ use Rattle.growth.proofs.Lines.{Every, Any, any_left, any_right, IsNode}
 use Rattle.growth.proofs.OnePath.{paths}
 use Rattle.growth.proofs.SoundBodies.{Topped}
 use Rattle.askings.specs.Owners.{is_attempt, memo_at}
+use Rattle.askings.specs.Ends.{SucceededByOutcome}
 use Rattle.askings.specs.ByTemplate.{duration_at, IsTemplateScope, AttemptStands, AttemptRuns, NextDue}
 use Rattle.askings.proofs.Walks.{Guarded}
 
@@ -51,20 +52,22 @@ abbrev pub Quiet : Line → Type 0
 Quiet (Asks w) = IsSave w
 Quiet _ = Unit {0}
 
--- a node that waits for nothing itself, but for an attempt that runs
-pub record Idle (whole : List Line) (n : Node) : Type 0 where
+-- a node that waits for nothing itself, but for an attempt that runs, and that has Succeeded only as it may
+pub record Idle (A : Answers) (whole : List Line) (n : Node) : Type 0 where
   pub suspended : n.kind ≡ kind.Suspend → n.phase ≡ Running → ⊥
   pub pod : n.kind ≡ kind.Pod → n.phase ≡ Running → ⊥
   pub pending : n.phase ≡ Pending → n.note ≡ note.None
   pub retry : n.kind ≡ kind.Retry → n.phase ≡ Running → AttemptRuns (nodes_in whole) n
+  pub succeeded : SucceededByOutcome A n
 
 -- so is one that is fulfilled
-pub over_idle : (whole : List Line) (n : Node) → fulfilled n.phase ≡ true → Idle whole n
-over_idle whole n e = record {
+pub over_idle : (A : Answers) (whole : List Line) (n : Node) → fulfilled n.phase ≡ true → SucceededByOutcome A n → Idle A whole n
+over_idle A whole n e s = record {
   suspended = λ k r. not_both (fulfilled n.phase) e (ap fulfilled r);
   pod = λ k r. not_both (fulfilled n.phase) e (ap fulfilled r);
   pending = λ r. not_both (fulfilled n.phase) e (ap fulfilled r);
   retry = λ k r. not_both (fulfilled n.phase) e (ap fulfilled r);
+  succeeded = s;
 }
 
 -- this node needs no save
@@ -115,7 +118,7 @@ pub record Tour (m : Manifest) (A : Answers) (whole : List Line) : Type 1 where
   pub none : Good []
   pub both : (ls ks : List Line) → Good ls → Good ks → Good (ls ++ ks)
   pub begins : (p : Path) → Good (MayBegin p ∷ [])
-  pub stands : (n : Node) (ls : List Line) → Idle whole n → Unsaved m A n → Good ls → Good (Stands n ∷ ls)
+  pub stands : (n : Node) (ls : List Line) → Idle A whole n → Unsaved m A n → Good ls → Good (Stands n ∷ ls)
   -- what a node asks for
   pub pod : (p : Place) → A.outcome p ≡ None → Guarded Known p.sels → Part whole (lines_in (running_pod p)) → Good (lines_in (running_pod p))
   pub lock : (p : Place) (k : Kind) (l : LockId) → (p.sels ≡ [] → ⊥) → lock_at m p.sels ≡ Some l → let n : Node = node p k Pending (note.Waiting l) no_outputs in let w : Want = want.Lock (path p.sels) l in Part whole (asking n w) → Good (asking n w)
@@ -124,7 +127,7 @@ pub record Tour (m : Manifest) (A : Answers) (whole : List Line) : Type 1 where
   pub timer : (p : Place) (s : Scope) (duration : List TagPart) (armed seconds : ℕ) → IsTemplateScope m A s → is_attempt p.sels ≡ false → A.armed p.sels ≡ Some armed → duration_at m p.sels ≡ Some duration → seconds_of s (Some duration) ≡ Ok (Some seconds) → let n : Node = node p kind.Suspend Running note.None no_outputs in let w : Want = want.Timer (path p.sels) (later armed seconds) in Part whole (asking n w) → Good (asking n w)
   pub resting : (p : Place) (armed : ℕ) → is_attempt p.sels ≡ false → A.armed p.sels ≡ Some armed → duration_at m p.sels ≡ None → Good (Stands (node p kind.Suspend Running note.None no_outputs) ∷ [])
   pub retry : (p : Place) (last tick : ℕ) (ls : List Line) → let n : Node = node p kind.Retry Running note.None no_outputs in let w : Want = want.Timer (path (p.sels ++ Attempt (suc last) ∷ [])) tick in AttemptStands (nodes_in whole) n last → NextDue m A n last tick → Every Trial ls → Good ls → Part whole (Stands n ∷ (ls ++ Asks w ∷ [])) → Good (Stands n ∷ (ls ++ Asks w ∷ []))
-  pub save : (n : Node) (p : Sels) (o : Outputs) (c : Memoize) (s : Scope) (key : List ℕ) (ls : List Line) → IsTemplateScope m A s → said s c.key ≡ Ok key → n.path ≡ path p → n.outputs ≡ o → n.phase ≡ Succeeded → memo_at m p ≡ Some c → Good ls → Part whole (Stands n ∷ ls) → Good (Stands n ∷ Asks (want.Save (path p) c.cache key o) ∷ ls)
+  pub save : (n : Node) (p : Sels) (o : Outputs) (c : Memoize) (s : Scope) (key : List ℕ) (ls : List Line) → IsTemplateScope m A s → said s c.key ≡ Ok key → n.path ≡ path p → n.outputs ≡ o → n.phase ≡ Succeeded → memo_at m p ≡ Some c → SucceededByOutcome A n → Good ls → Part whole (Stands n ∷ ls) → Good (Stands n ∷ Asks (want.Save (path p) c.cache key o) ∷ ls)
   -- the workflow's own lock
   pub root : (l : LockId) → m.lock ≡ Some l → let n : Node = pending_root m (note.Waiting l) in let w : Want = want.Lock (path []) l in Part whole (asking n w) → Good (asking n w)
   pub own : LockGranted m A [] → Known []

@@ -12,7 +12,6 @@ use Rattle.tree_types.specs.declared.entry.Entry.TheVariants.{Save}
 use Rattle.tree_types.specs.Phases.{fulfilled}
 use Rattle.meaning.specs.Answers.{Sels, Facts, path}
 use Rattle.growth.specs.Growth.{Among}
-use Rattle.growth.specs.Nodes.{NamesApart, HasShortPaths}
 use Rattle.growth.specs.Writes.{Asked}
 use Rattle.growth.proofs.Journals.{asked_is_new}
 use Rattle.history.specs.History.{map_content, number_of, Extends, version_at, IsVersionOf, Lawful}
@@ -23,6 +22,7 @@ use Rattle.law.specs.Documents.{Text, PlannedOutcome, ended_by, Document}
 use Rattle.law.specs.Contents.{Flow, PodObject, Book, OfWorkflow, OfPod, apply, Story, starts, flow_in, pod_in, pod_of, HasFlow}
 use Rattle.law.specs.Justified.{tree_of, wants_of, IsOverIn, key, IsNamed, Justified, IsLawful}
 use Rattle.law.specs.Due.{Matter, record_fact, create, name_at}
+use Rattle.lawful.specs.Manifests.{HasValidWorkflows}
 use Rattle.lawful.specs.Still.{FlowView, PodView, BookView, SavesView}
 use Rattle.lawful.proofs.Facts.{some_same}
 use Rattle.lawful.proofs.Moments.{pod_later}
@@ -63,7 +63,7 @@ act_is_new D w v s x viewed e =
 
 -- ---- what a worker does next
 
-module _ (D : Document) (seen : Story) (w : Text) (v : Views) (s : Seen Flow) (facts : Facts) (start : seen.start ≡ starts D) (views : ViewsOf seen w v) (viewed : v.flow ≡ Some s) (apart : NamesApart s.content.manifest) (short : HasShortPaths (tree_of s.content)) where
+module _ (D : Document) (seen : Story) (w : Text) (v : Views) (s : Seen Flow) (facts : Facts) (valid : HasValidWorkflows D) (start : seen.start ≡ starts D) (views : ViewsOf seen w v) (viewed : v.flow ≡ Some s) where
   abbrev view : FlowView seen w
   view = let a = views.flow s viewed in record { number = s.number; flow = s.content; tick = s.tick; shown = record { before = views.moment; extends = views.extends; stood = a.stood; clock = a.clock } }
 
@@ -86,7 +86,7 @@ module _ (D : Document) (seen : Story) (w : Text) (v : Views) (s : Seen Flow) (f
       let then : pod_of is.before w name ≡ Some x.content = ap (λ o. pod_in (map_content o)) is.stood in
       let on = pod_later D h is.before w name x.content (extends_later h seen is.before b is.extends) l then in
       let now : pod_of h w k.node.name ≡ Some on.now = ap (pod_of h w) k.named ∙ on.stands in
-      sym on.path ∙ pods_by_name D h w s.content k.node on.now l stands apart short k.place now ∙ k.path
+      sym on.path ∙ pods_by_name D h w s.content k.node on.now valid l stands k.place now ∙ k.path
 
   lawful_at : (h : Story) → Extends h seen → Lawful (Justified D) h → IsLawful D h
   lawful_at h b l = record { start = b.same_start ∙ start; each = l }
@@ -132,8 +132,8 @@ module _ (D : Document) (seen : Story) (w : Text) (v : Views) (s : Seen Flow) (f
   fine x (by_over c r) = λ adds. resubmitted_still D seen w view c r.given r.of_this r.reached r.over
 
 pub acts_still : ActsStill
-acts_still D seen w v s facts x start views viewed apart short e adds =
-    fine D seen w v s facts start views viewed apart short x (reason D w v s x viewed e) adds
+acts_still D seen w v s facts x valid start views viewed e adds =
+    fine D seen w v s facts valid start views viewed x (reason D w v s x viewed e) adds
 
 -- ---- what a runner does next
 

@@ -7,7 +7,7 @@ use Rattle.tree_types.specs.declared.entry.Entry.TheVariants.{Submit, Write, Cre
 use Rattle.history.specs.Keys.{is_about}
 use Rattle.history.specs.History.{Event, Version, number_of, map_content, version_at, next_version, grown}
 use Rattle.history.proofs.Extends.{version_at-grown}
-use Rattle.history.proofs.Carrying.{empty}
+use Rattle.history.specs.Carrying.{empty}
 use Rattle.law.specs.Documents.{Text, Document}
 use Rattle.law.specs.Contents.{Content, OfWorkflow, OfPod, OfLocks, OfCaches, apply, Story, starts, flow_in}
 use Rattle.law.specs.Justified.{JustifiedBy, Justified, IsLawful}

@@ -19,11 +19,13 @@ use Rattle.next_step.specs.Changes.{change_of}
 use Rattle.next_step.specs.Replies.{Reply, found, accepted, no_object, exists, conflict, fault, Job, goes_on, ended, taken, did, after}
 use Rattle.next_step.specs.Calls.{Got, Did, Undisturbed, stays, reads, acts, calls_of}
 use Rattle.next_laws.specs.Fresh.{Fresh}
-use Rattle.next_laws.specs.Sizes.{calls_left, HasFewer, MayGet, most_calls, UndisturbedEnds}
+use Rattle.next_laws.specs.Sizes.{calls_left, HasFewer, MayGet, most_calls, IsBounded, UndisturbedEnds}
 use Rattle.next_laws.proofs.Gets.{own_key, first_get}
 use Rattle.next_laws.proofs.Keeping.{FreshJob, got_fresh, did_extends, goes_on_from, acted_fresh, stays_fresh, fresh_nothing}
 use Rattle.next_laws.proofs.Falling.{goes_same, ends_not, reads_leave_fewer, refusals_leave_fewer}
 use Rattle.next_laws.proofs.Few.{calls_are_bounded}
+use Rattle.next_laws.proofs.Viewing.{views_stay}
+use Rattle.next_laws.proofs.StayingLawful.{stays_lawful}
 
 may_get : (h : Story) (k : Key) (r : Reply) → Got h k r → MayGet h k r
 may_get h k (found x) g = tt
@@ -154,8 +156,8 @@ same_flow w h i g b c n =
     let none : b.rest ≡ [] = no_rest b.rest (omega (arith, n, p, q)) in
     ap₂ (λ start events. flow_of record { start = start; events = events } w) b.same_start (b.goes_on ∙ ap (λ es. i.events ++ es) none ∙ append-nil i.events)
 
-pub undisturbed_ends : UndisturbedEnds
-undisturbed_ends D w h g u ran l = record {
+ends_by : (D : Document) (w : Text) (h g : Story) (u : Views) (ran : Undisturbed D w h nothing g u) → IsLawful D g → IsBounded D w h g u ran
+ends_by D w h g u ran l = record {
   bounded = λ entries n. bounded D w h g l most_nodes all_fit h nothing u entries ran (extends_itself h) refl n;
   still = λ s viewed n. let a = bounded D w h g l (length (tree_of s.content)) (same_tree s viewed n) h nothing u 0 ran (extends_itself h) refl (omega (arith, n)) in omega (arith, a);
 }
@@ -171,3 +173,6 @@ undisturbed_ends D w h g u ran l = record {
         let now : HasFlow g w s.content = ap (λ o. flow_in (map_content o)) (fresh.flow s viewed).stood in
         let same : t.content ≡ s.content = some_same t.content s.content (sym stands ∙ sym (same_flow w h i g b c n) ∙ now) in
         subst (λ f. length (tree_of f) ≤ length (tree_of s.content)) (sym same) (le_refl (length (tree_of s.content)))
+
+pub undisturbed_ends : UndisturbedEnds
+undisturbed_ends D w h g u ran valid begun = ends_by D w h g u ran (stays_lawful D w h nothing g u valid begun (views_stay.begin h w) ran)

@@ -14,3 +14,4 @@ pub mod Ending
 pub mod WorkedJobs
 pub mod WorkedConflict
 pub mod Viewing
+pub mod StayingLawful

@@ -21,6 +21,8 @@ use Rattle.next_laws.specs.Jobs.{UndisturbedGoesWell, StillEnd, as_done, as_full
 use Rattle.next_laws.proofs.Agreeing.{fresh_acts_are_due}
 use Rattle.next_laws.proofs.Gets.{OwnKey, own_key}
 use Rattle.next_laws.proofs.ContentKinds.{kind_of, kind_under, kinds_are}
+use Rattle.next_laws.proofs.Viewing.{views_stay}
+use Rattle.next_laws.proofs.StayingLawful.{stays_lawful}
 use Rattle.next_laws.proofs.Keeping.{no_conflict, stays_fresh, fresh_nothing}
 
 no_head : {A : Type 0} (xs : List A) → head xs ≡ None → xs ≡ []
@@ -31,9 +33,11 @@ done_due : (D : Document) (w : Text) (g : Story) (u : Views) (s : Seen Flow) →
 done_due D w g u s l fresh e viewed = no_head (due_of D g w s.content) (subst (λ n. NextIs g n (head (due_of D g w s.content))) e (fresh_acts_are_due D g w u s l fresh viewed))
 
 pub undisturbed_goes_well : UndisturbedGoesWell
-undisturbed_goes_well D w h g u l ran =
+undisturbed_goes_well D w h g u valid begun ran =
+    let l = stays_lawful D w h nothing g u valid begun (views_stay.begin h w) ran in
     let fresh = stays_fresh D w h nothing g u l (fresh_nothing h w) ran in
     record {
+      lawful = l;
       fresh = fresh;
       no_conflict = λ m s facts r i e viewed d c. no_conflict g w u fresh s viewed facts m r i d c;
       nothing_due = λ s e viewed. done_due D w g u s l fresh e viewed;

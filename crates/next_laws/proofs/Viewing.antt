@@ -38,7 +38,7 @@ JobOf h w (goes_on v) = ViewsOf h w v
 JobOf h w (ended e) = Unit {0}
 
 -- what stands now was there at a moment
-now_version : (h : Story) (k : Key) (n : ℕ) (c : Content) (t : ℕ) → ShownAt h k n c t → IsVersionOf apply h k n c t
+pub now_version : (h : Story) (k : Key) (n : ℕ) (c : Content) (t : ℕ) → ShownAt h k n c t → IsVersionOf apply h k n c t
 now_version h k n c t is = record { before = h; extends = extends_itself h; stood = is.stood; clock = is.clock }
 
 module _ (h : Story) (w : Text) (v : Views) (a : ViewsOf h w v) where

@@ -5,13 +5,12 @@ use Rattle.tree_types.specs.declared.outcome.Outcome.{Outcome}
 use Rattle.tree_types.specs.declared.entry.Key.TheVariants as of_key
 use Rattle.tree_types.specs.Journals.{knows}
 use Rattle.meaning.specs.Answers.{Facts}
-use Rattle.growth.specs.Nodes.{NamesApart, HasShortPaths}
 use Rattle.growth.specs.Writes.{Asked}
 use Rattle.history.specs.History.{IsVersionOf}
 use Rattle.law.specs.Documents.{Text, Document}
 use Rattle.law.specs.Contents.{Flow, PodObject, OfPod, apply, Story, starts}
-use Rattle.law.specs.Justified.{tree_of}
 use Rattle.law.specs.Due.{Matter, record_fact}
+use Rattle.lawful.specs.Manifests.{HasValidWorkflows}
 use Rattle.lawful.specs.Still.{Still}
 use Rattle.next_step.specs.Views.{Seen, Views}
 use Rattle.next_step.specs.Next.{act, worker_next}
@@ -22,14 +21,13 @@ use Rattle.next_step.specs.Runner.{finish, runner_next, finish_change}
 abbrev pub ChangeStill : Document → Story → Change → Type 0
 ChangeStill D seen c = Still D seen c.key c.number c.event
 
--- each act that is next by views of a history of the document; names are apart, as in a valid manifest, and paths are
--- short, as in their type: a pod is found by its node's name
+-- each act that is next by views of a history of the document; its workflows are valid, since a pod is found by its
+-- node's name
 abbrev pub ActsStill : Type 0
 ActsStill =
     (D : Document) (seen : Story) (w : Text) (v : Views) (s : Seen Flow) (facts : Facts) (x : Matter) →
-    seen.start ≡ starts D → ViewsOf seen w v → v.flow ≡ Some s → NamesApart s.content.manifest →
-    HasShortPaths (tree_of s.content) → worker_next D w v ≡ act x → AddsFor s facts x →
-    ChangeStill D seen (change_of w v s facts x)
+    HasValidWorkflows D → seen.start ≡ starts D → ViewsOf seen w v → v.flow ≡ Some s → worker_next D w v ≡ act x →
+    AddsFor s facts x → ChangeStill D seen (change_of w v s facts x)
 
 -- the outcome that is next by a view of a pod
 abbrev pub FinishesStill : Type 0

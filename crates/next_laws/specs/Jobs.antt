@@ -8,6 +8,7 @@ use Rattle.law.specs.Documents.{Text, Document}
 use Rattle.law.specs.Contents.{Flow, PodObject, OfPod, Story, pod_of, HasFlow}
 use Rattle.law.specs.Justified.{IsLawful}
 use Rattle.law.specs.Due.{Matter, record_fact, due_of, IsTooLarge, IsIdle}
+use Rattle.lawful.specs.Manifests.{HasValidWorkflows}
 use Rattle.next_step.specs.Views.{Seen, Views, nothing}
 use Rattle.next_step.specs.Next.{get, act, done, worker_next}
 use Rattle.next_step.specs.Changes.{change_of, ShownAt}
@@ -20,19 +21,21 @@ abbrev pub IsConflict : Reply → Type 0
 IsConflict (conflict expected there) = Unit {0}
 IsConflict _ = ⊥
 
--- its views are fresh, its next call meets no conflict, and where it is done nothing of its workflow is due
+-- the history is lawful, its views are fresh, its next call meets no conflict, and where it is done nothing of its
+-- workflow is due
 pub record GoesWell (D : Document) (w : Text) (g : Story) (u : Views) : Type 0 where
+  pub lawful : IsLawful D g
   pub fresh : Fresh g w u
   pub no_conflict :
       (m : Matter) (s : Seen Flow) (facts : Facts) (r : Reply) (i : Story) → worker_next D w u ≡ act m →
       u.flow ≡ Some s → Did g (change_of w u s facts m) r i → IsConflict r → ⊥
   pub nothing_due : (s : Seen Flow) → worker_next D w u ≡ done → u.flow ≡ Some s → due_of D g w s.content ≡ []
 
--- at each moment of a job that nobody disturbs, over a lawful history
+-- at each moment of a job that nobody disturbs, and that begins at a lawful history of a document of valid workflows
 abbrev pub UndisturbedGoesWell : Type 0
 UndisturbedGoesWell =
-    (D : Document) (w : Text) (h g : Story) (u : Views) → IsLawful D g → Undisturbed D w h nothing g u →
-    GoesWell D w g u
+    (D : Document) (w : Text) (h g : Story) (u : Views) → HasValidWorkflows D → IsLawful D h →
+    Undisturbed D w h nothing g u → GoesWell D w g u
 
 -- ---- a round in which no entry came
 

@@ -12,6 +12,7 @@ use Rattle.law.specs.Documents.{Text, Command, Resume, Resubmit, Document}
 use Rattle.law.specs.Contents.{Flow, Content, apply, Story}
 use Rattle.law.specs.Justified.{tree_of, wants_of, IsLawful}
 use Rattle.law.specs.Due.{Matter, node_name}
+use Rattle.lawful.specs.Manifests.{HasValidWorkflows}
 use Rattle.next_step.specs.Views.{Seen, Look, Views, nothing, look_at}
 use Rattle.next_step.specs.Next.{get, act, worker_next}
 use Rattle.next_step.specs.Changes.{change_of}
@@ -98,5 +99,5 @@ pub record IsBounded
 
 abbrev pub UndisturbedEnds : Type 0
 UndisturbedEnds =
-    (D : Document) (w : Text) (h g : Story) (u : Views) (ran : Undisturbed D w h nothing g u) → IsLawful D g →
-    IsBounded D w h g u ran
+    (D : Document) (w : Text) (h g : Story) (u : Views) (ran : Undisturbed D w h nothing g u) →
+    HasValidWorkflows D → IsLawful D h → IsBounded D w h g u ran
