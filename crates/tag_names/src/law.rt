@@ -26,5 +26,6 @@ pub fn workflow_tags_named()
 /// The tags of a template's inputs name these.
 pub fn input_tags_named()
     ensures { (inputs : List Param) →
-        map (λ entry. named entry.0) (input_tags inputs) ≡ map (λ input. input_parameter input.name) inputs }
+        map (λ entry. named entry.0) (input_tags inputs)
+        ≡ map (λ input. input_parameter input.name) inputs }
 {}

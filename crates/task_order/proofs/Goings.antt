@@ -1,14 +1,14 @@
 -- A step of a walk goes on, or meets a circle.
-use Rattle.std.proofs.Common.{◌≡◌, ◌≢◌, ◌⊎◌, ℕ, zero, suc, ◌+◌, ◌-◌, ◌<◌, ◌≤◌, Bool, true, false, List, [], ◌∷◌, ◌++◌, length, get_or, set, take, refl, sym, ap, ◌∙◌, subst, inl, inr, arith}
+use Rattle.std.proofs.Common.{◌≡◌, ◌≢◌, ℕ, ◌-◌, ◌<◌, ◌≤◌, List, [], ◌∷◌, ◌++◌, length, get_or, set, take, refl, sym, ap, ◌∙◌, subst, inl, inr, arith}
 use Rattle.std.proofs.lemmas.Bool.{cases_lt}
 use Rattle.std.proofs.lemmas.List.{length_push, length-take, get_or_default}
 use Rattle.std.proofs.lemmas.List.Elements.{All-get_or, Contains-get_or}
-use Rattle.std.specs.List.{All, Contains, sum_by}
+use Rattle.std.specs.List.{Contains, sum_by}
 use Rattle.task_order.specs.declared.stage.Stage.{Stage}
 use Rattle.task_order.specs.declared.stage.Stage.TheVariants.{New, Open, Done}
 use Rattle.task_order.specs.declared.walk.Walk.{Walk}
 use Rattle.task_order.specs.Inside.Graphs.{row, AreWithin, Reaches}
-use Rattle.task_order.specs.Inside.Walks.{stage, Sound, IsSound, weight, work, KeepsMet, GoesOn}
+use Rattle.task_order.specs.Inside.Walks.{stage, Sound, IsSound, weight, GoesOn}
 use Rattle.task_order.proofs.Among.{among_from}
 use Rattle.task_order.proofs.Graphs.{row_within}
 use Rattle.task_order.proofs.Walks.{stage_before, sound_passed, sound_begun, sound_finished, leads, circle, new_less, done_less}

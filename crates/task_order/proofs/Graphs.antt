@@ -1,16 +1,16 @@
 -- What reaches what among places is what waits for what among tasks.
-use Rattle.std.proofs.Common.{◌≡◌, ◌≢◌, ◌⊎◌, ◌↔◌, ℕ, zero, suc, ◌<◌, ◌≤◌, ◌||◌, Bool, true, false, IsTrue, cond, List, [], ◌∷◌, ◌++◌, length, get_or, set, replicate, fold, Option, Some, None, refl, sym, ap, ◌∙◌, subst, inl, inr, arith, map}
+use Rattle.std.proofs.Common.{◌≡◌, ◌⊎◌, ℕ, ◌<◌, ◌≤◌, List, [], ◌∷◌, ◌++◌, length, get_or, set, replicate, fold, Option, Some, None, refl, sym, ap, ◌∙◌, subst, inl, inr, arith}
 use Rattle.std.proofs.lemmas.List.{get_or-replicate, get_or_past, get_or_default, length-set, length-replicate, get_or-set_same, get_or-set_other}
 use Rattle.std.proofs.lemmas.List.Elements.{Contains-get_or}
 use Rattle.std.proofs.lemmas.Bool.{cases_lt}
 use Rattle.std.specs.List.{All, Contains}
 use Rattle.depends_expr.specs.Expression.{Expression}
-use Rattle.depends_expr.specs.Truth.{named, names_of, add_names}
+use Rattle.depends_expr.specs.Truth.{named}
 use Rattle.wf_manifest.specs.declared.calls.Task.{Task}
 use Rattle.wf_manifest.specs.Valid.{waits_for, names_in}
 use Rattle.task_order.specs.Ancestors.{names, Waits, IsAncestor, parent, above, HasOwnAncestor}
 use Rattle.task_order.specs.Inside.Graphs.{place, places, waited_in, waited, row, with_more, added, IsGraph, AreWithin, Reaches, at_once, over}
-use Rattle.task_order.proofs.Among.{Among, among_from, contains_from, among_left, among_right, among_either, among_map, among_mapped, among_given, given_from, listed, is_listed, same_or}
+use Rattle.task_order.proofs.Among.{Among, among_from, contains_from, among_left, among_right, among_either, among_map, among_given, given_from, listed, is_listed, same_or}
 use Rattle.task_order.proofs.NameLists.{all_added, only, place_reads, place_told, place_found, place_in}
 
 -- ---- the names that a task waits for, each once

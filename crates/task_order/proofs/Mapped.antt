@@ -1,8 +1,7 @@
 -- Lent names, and the names that they lend.
-use Rattle.std.proofs.Common.{◌≡◌, ℕ, suc, ◌||◌, ◌+◌, Bool, true, false, not, cond, List, [], ◌∷◌, ◌++◌, length, Option, Some, None, refl, sym, ap, ◌∙◌, map, ltb, Bor}
+use Rattle.std.proofs.Common.{◌≡◌, ℕ, ◌||◌, ◌+◌, Bool, true, false, not, cond, List, [], ◌∷◌, ◌++◌, length, Some, None, refl, sym, ap, ◌∙◌, map, Bor}
 use Rattle.std.specs.Prelude.{position, bytes_eq, nat_lt}
 use Rattle.std.specs.List.{list_any, prefix_len, position_or_len}
-use Rattle.std.proofs.lemmas.Bool.{cases_Bool}
 use Rattle.std.proofs.lemmas.List.{map-append, length-map}
 use Rattle.depends_expr.specs.Truth.{add_name}
 

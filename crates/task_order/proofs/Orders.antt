@@ -1,13 +1,12 @@
 -- A walk from each place in turn puts all of them in order.
-use Rattle.std.proofs.Common.{◌≡◌, ◌≢◌, ◌⊎◌, ℕ, zero, suc, ◌+◌, ◌<◌, ◌≤◌, List, [], ◌∷◌, ◌++◌, length, get_or, set, refl, sym, ap, ◌∙◌, subst, inl, inr, arith}
+use Rattle.std.proofs.Common.{◌≡◌, ◌≢◌, ℕ, ◌+◌, ◌<◌, List, [], ◌∷◌, ◌++◌, length, get_or, set, sym, ap, ◌∙◌, subst, inl, inr, arith}
 use Rattle.std.proofs.lemmas.List.{get_or_default}
 use Rattle.task_order.specs.declared.stage.Stage.{Stage}
-use Rattle.task_order.specs.declared.stage.Stage.TheVariants.{New, Open, Done}
+use Rattle.task_order.specs.declared.stage.Stage.TheVariants.{New, Open}
 use Rattle.task_order.specs.declared.walk.Walk.{Walk}
-use Rattle.task_order.specs.Inside.Graphs.{Reaches, IsOrder}
-use Rattle.task_order.specs.Inside.Walks.{stage, Sound, IsSound, KeepsMet}
+use Rattle.task_order.specs.Inside.Walks.{stage, IsSound, KeepsMet}
 use Rattle.task_order.proofs.Among.{same_or}
-use Rattle.task_order.proofs.Walks.{stage_before, sound_begun, order_made}
+use Rattle.task_order.proofs.Walks.{stage_before, sound_begun}
 use Rattle.task_order.proofs.Goings.{same_sound}
 
 -- what an element that was read says of a stage

@@ -1,5 +1,5 @@
 -- Places in order give tasks their ranks, and ranks leave no circle.
-use Rattle.std.proofs.Common.{◌≡◌, ◌⊎◌, ℕ, zero, suc, ◌<◌, ◌≤◌, ◌==◌, Bool, true, false, cond, List, [], ◌∷◌, length, get_or, take, Option, Some, None, refl, sym, ap, ◌∙◌, subst, inl, inr, arith}
+use Rattle.std.proofs.Common.{◌≡◌, ℕ, suc, ◌<◌, ◌≤◌, ◌==◌, true, false, List, length, get_or, take, Option, Some, None, refl, sym, ◌∙◌, subst, inl, inr, arith}
 use Rattle.std.proofs.lemmas.Bool.{cases_lt, eqb-true, eq-eqb}
 use Rattle.std.proofs.lemmas.List.{get_or_default, get_or-take, length-take}
 use Rattle.std.proofs.lemmas.List.Elements.{All-contains, Contains-get_or}
@@ -8,10 +8,10 @@ use Rattle.std.specs.List.{All, Contains, position_or_len}
 use Rattle.wf_manifest.specs.declared.calls.Task.{Task}
 use Rattle.wf_manifest.specs.Valid.{waits_for, HasRank}
 use Rattle.task_order.specs.Ancestors.{Waits, IsAncestor, parent, above}
-use Rattle.task_order.specs.Inside.Graphs.{place, row, IsGraph, IsOrder, Reaches}
+use Rattle.task_order.specs.Inside.Graphs.{place, row, IsGraph, IsOrder}
 use Rattle.task_order.proofs.Among.{Among, among_from, contains_from}
 use Rattle.task_order.proofs.NameLists.{place_reads}
-use Rattle.task_order.proofs.Graphs.{graph_long, task_in, edge, row_within}
+use Rattle.task_order.proofs.Graphs.{graph_long, task_in, edge}
 
 -- ---- first positions in an order
 

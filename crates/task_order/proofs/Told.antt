@@ -1,12 +1,12 @@
 -- What the sets of places tell of tasks.
-use Rattle.std.proofs.Common.{◌≡◌, ◌↔◌, ℕ, ◌<◌, Bool, true, false, not, IsTrue, List, length, Option, Some, None, sym, ap, ◌∙◌, subst, arith}
+use Rattle.std.proofs.Common.{◌≡◌, ℕ, ◌<◌, Bool, true, false, not, IsTrue, List, length, Option, Some, None, sym, ap, ◌∙◌, subst, arith}
 use Rattle.std.specs.Prelude.{is_some, IfSome, IfNone}
 use Rattle.wf_manifest.specs.Valid.{HasRank}
 use Rattle.wf_manifest.specs.declared.calls.Task.{Task}
 use Rattle.task_order.specs.declared.places.Places.{Places}
 use Rattle.task_order.specs.Ancestors.{IsAncestor, HasOwnAncestor}
 use Rattle.task_order.specs.Inside.Graphs.{place, IsGraph, IsOrder, Reaches}
-use Rattle.task_order.specs.Inside.Rows.{has, bits_of, HoldReached, AreAncestors}
+use Rattle.task_order.specs.Inside.Rows.{HoldReached, AreAncestors}
 use Rattle.task_order.proofs.NameLists.{place_reads}
 use Rattle.task_order.proofs.Graphs.{graph_long, ancestor_reached, reached_ancestor, own_ancestor}
 use Rattle.task_order.proofs.Ranks.{has_rank}

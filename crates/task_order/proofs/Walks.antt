@@ -1,15 +1,15 @@
 -- Each step of a walk keeps what it was to keep, and does some of the work.
-use Rattle.std.proofs.Common.{◌≡◌, ◌≢◌, ◌⊎◌, ℕ, zero, suc, ◌+◌, ◌-◌, ◌<◌, ◌≤◌, Bool, true, false, List, [], ◌∷◌, ◌++◌, length, get_or, set, take, replicate, refl, sym, ap, ◌∙◌, subst, inl, inr, arith}
+use Rattle.std.proofs.Common.{◌≡◌, ◌≢◌, ℕ, ◌+◌, ◌-◌, ◌<◌, ◌≤◌, List, [], ◌∷◌, ◌++◌, length, get_or, set, take, replicate, refl, sym, ap, ◌∙◌, subst, inl, inr, arith}
 use Rattle.std.proofs.lemmas.Bool.{cases_lt}
-use Rattle.std.proofs.lemmas.List.{get_or_default, get_or_past, get_or_append_left, get_or_push, get_or-replicate, get_or-set_same, get_or-set_other, get_or-take, length-set, length-take, length-append, length-replicate, length_push, take-append-le, take_all}
-use Rattle.std.proofs.lemmas.List.Elements.{All-push, All-take, All-get_or, Contains-push, Contains-append_left, Contains-push_cases}
+use Rattle.std.proofs.lemmas.List.{get_or_default, get_or_past, get_or_append_left, get_or_push, get_or-replicate, get_or-set_same, get_or-set_other, get_or-take, length-set, length-take, length-replicate, length_push, take-append-le, take_all}
+use Rattle.std.proofs.lemmas.List.Elements.{All-push, All-take, All-get_or, Contains-push, Contains-append_left}
 use Rattle.std.proofs.lemmas.List.Sums.{sum_by-set}
 use Rattle.std.specs.List.{All, Contains, sum_by}
 use Rattle.task_order.specs.declared.stage.Stage.{Stage}
 use Rattle.task_order.specs.declared.stage.Stage.TheVariants.{New, Open, Done}
 use Rattle.task_order.specs.Inside.Graphs.{row, Reaches, at_once, over, StandsBehind, IsOrder}
 use Rattle.task_order.specs.Inside.Walks.{stage, Sound, weight}
-use Rattle.task_order.proofs.Among.{Among, among_from, contains_from, same_or}
+use Rattle.task_order.proofs.Among.{same_or}
 
 -- one place more at the end of a way
 pub on : (waits : List (List ℕ)) (goal u v : ℕ) → Reaches waits u v → Contains (row waits u) goal → Reaches waits goal v

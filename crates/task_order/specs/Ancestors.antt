@@ -19,7 +19,8 @@ pub record Waits (tasks : List Task) (other name : List ℕ) : Type 0 where
 -- it waits for the ancestor, or for a task that has this ancestor
 pub data IsAncestor (tasks : List Task) (ancestor : List ℕ) : List ℕ → Type 0 where
   parent : {name : List ℕ} → Waits tasks ancestor name → IsAncestor tasks ancestor name
-  above : {name : List ℕ} (other : List ℕ) → Waits tasks other name → IsAncestor tasks ancestor other → IsAncestor tasks ancestor name
+  above : {name : List ℕ} (other : List ℕ) →
+      Waits tasks other name → IsAncestor tasks ancestor other → IsAncestor tasks ancestor name
 
 -- some task is its own ancestor
 abbrev pub HasOwnAncestor : List Task → Type 0

@@ -42,7 +42,8 @@ impl<'a> Model for Ancestors<'a> {
 impl<'a> Ancestors<'a> {
     /// The ancestors of these tasks; `None` where they wait for each other in a circle.
     pub fn new(alloc: Global, tasks: &'a [Task]) -> Result<Option<Ancestors<'a>>, Memory>
-        ensures some { IfOk result (λ made. IfSome made (λ ancestors. ancestors ≡ tasks.entry.now)) }
+        ensures some { IfOk result (λ made.
+            IfSome made (λ ancestors. ancestors ≡ tasks.entry.now)) }
         ensures none { IfOk result (λ made. IfNone made (HasOwnAncestor tasks.entry.now)) }
     {
         let graph = graph_of(alloc, tasks)?;

@@ -1,4 +1,4 @@
-//! What the tasks of a DAG wait for: whether they wait for each other in a circle, and which task is an ancestor of which.
+//! What the tasks of a DAG wait for: whether in a circle for each other, and which task is an ancestor of which.
 #![tactic(auto)]
 
 mod ancestors;

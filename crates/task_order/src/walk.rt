@@ -1,5 +1,5 @@
-//! A walk over places, from each to those that it waits for, which puts them in order or meets a circle. What is open is
-//! kept in a list, so that no chain of tasks, however long, makes a recursion.
+//! A walk over places, from each to those that it waits for, which puts them in order or meets a circle. What is open
+//! is kept in a list, so that no chain of tasks, however long, makes a recursion.
 
 ghost use Rattle.std.specs.Prelude.{◌≡◌, ◌≢◌, ◌∷◌, ◌++◌, ℕ, ◌<◌, ◌≤◌, ◌-◌, [], length, take, replicate, slice_index, slice_set, vec_len, IfOk, OnOk};
 ghost use Rattle.std.specs.List.{All};
@@ -56,7 +56,8 @@ impl Walk {
     fn finish(&mut self, place: usize) -> Result<(), Memory>
         requires { place < vec_len self.old.stages }
         ensures stages { OnOk result (self.new.stages.items ≡ slice_set self.old.stages.items place Stage.Done) }
-        ensures trail { OnOk result (self.new.trail.items ≡ take (length self.old.trail.items - 1) self.old.trail.items) }
+        ensures trail { OnOk result
+            (self.new.trail.items ≡ take (length self.old.trail.items - 1) self.old.trail.items) }
         ensures passed { OnOk result (self.new.passed.items ≡ self.old.passed.items) }
         ensures order { OnOk result (self.new.order.items ≡ self.old.order.items ++ place ∷ []) }
     {

@@ -1,4 +1,4 @@
-use Rattle.std.proofs.Common.{◌≡◌, ◌<◌, length, arith}
+use Rattle.std.proofs.Common.{arith}
 use Rattle.task_order.proofs.Walks.{order_made}
 use Rattle.task_order.proofs.Orders.{begun_sound, new_read}
 use Rattle.task_order.proofs.ordering.order_of.Goals as goal

@@ -1,4 +1,4 @@
-use Rattle.std.proofs.Common.{◌≡◌, ◌∙◌, ◌==◌, ◌||◌, get_or, refl, ap}
+use Rattle.std.proofs.Common.{◌∙◌, ◌==◌, ◌||◌, get_or, refl, ap}
 use Rattle.std.specs.List.{list_any}
 use Rattle.std.proofs.lemmas.List.{take_all}
 use Rattle.task_order.specs.Inside.Rows.{has, bits_of}

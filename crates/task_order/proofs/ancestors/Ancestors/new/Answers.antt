@@ -1,4 +1,4 @@
-use Rattle.std.proofs.Common.{sym, subst, List, ℕ, Vec, Global}
+use Rattle.std.proofs.Common.{sym, subst}
 use Rattle.task_order.specs.Inside.Graphs.{AreWithin, IsGraph}
 use Rattle.task_order.proofs.Graphs.{graph_within}
 use Rattle.task_order.specs.Inside.Rows.{HoldReached}

@@ -1,4 +1,4 @@
-use Rattle.std.proofs.Common.{◌≡◌, ◌<◌, Some, length, sym, ap, ◌∙◌, subst, arith}
+use Rattle.std.proofs.Common.{◌≡◌, Some, sym, ap, ◌∙◌, subst, arith}
 use Rattle.task_order.specs.Ancestors.{IsAncestor}
 use Rattle.task_order.specs.Inside.Graphs.{place}
 use Rattle.task_order.specs.Inside.Rows.{has, bits_of}

@@ -1,4 +1,4 @@
-use Rattle.std.proofs.Common.{◌≡◌, ◌<◌, length, get_or, refl, sym, ◌∙◌, true, false, arith}
+use Rattle.std.proofs.Common.{◌≡◌, ◌<◌, length, sym, ◌∙◌, true, false, arith}
 use Rattle.task_order.proofs.Goings.{goes_finished, goes_begun, meets_circle}
 use Rattle.task_order.proofs.walk.Walk.step.Goals as goal
 
