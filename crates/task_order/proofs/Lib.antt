@@ -1,0 +1,12 @@
+mod Among
+mod NameLists
+mod Graphs
+mod Ranks
+mod Walks
+mod Goings
+mod Orders
+mod Bits
+mod Reached
+mod Told
+mod Steps
+mod Mapped

@@ -1,0 +1,7 @@
+-- The places of the names so far are added.
+use Rattle.std.proofs.Common.{◌≡◌, ◌++◌, take}
+use Rattle.task_order.specs.Inside.Graphs.{places}
+use Rattle.task_order.proofs.graph.add_places.Given as goal
+
+abbrev pub invariant-loop-i : goal.invariant-loop-i
+invariant-loop-i l = l.row ≡ l.initial.row ++ places l.table (take l.i l.names)

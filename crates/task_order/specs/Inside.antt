@@ -1,0 +1,4 @@
+-- What speaks only of private code.
+pub mod Graphs
+pub mod Walks
+pub mod Rows
