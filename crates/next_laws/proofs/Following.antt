@@ -9,28 +9,28 @@ use Rattle.tree_types.specs.declared.entry.Key.{Key}
 use Rattle.tree_types.specs.declared.entry.Key.TheVariants.{Workflow, Pod, Locks, Caches}
 use Rattle.meaning.specs.Answers.{Facts}
 use Rattle.growth.specs.Writes as writes
-use Rattle.history.specs.Keys.{same_key, is_about}
-use Rattle.history.specs.History.{Event, Version, number_of, map_content, clock_of, grown, next_version, step_at, version_at, IsVersionOf}
+use Rattle.history.specs.Keys.{is_about}
+use Rattle.history.specs.History.{Event, Version, number_of, map_content, clock_of, grown, next_version, version_at, IsVersionOf}
 use Rattle.history.proofs.Keys.{same_key-refl}
-use Rattle.history.proofs.Extends.{version_at-grown, extends_later}
+use Rattle.history.proofs.Extends.{version_at-grown}
 use Rattle.history.proofs.Carrying.{still_stands, absent_at}
 use Rattle.law.specs.Documents.{Text, PlannedOutcome, ended_by, Document}
 use Rattle.law.specs.Contents.{Flow, PodObject, Book, Content, OfWorkflow, OfPod, OfLocks, OfCaches, flow, begun_pod, apply, Story, number_at, flow_in, HasFlow}
 use Rattle.law.specs.Justified.{Adds, carried_facts, renamed, IsLawful}
 use Rattle.law.specs.Due.{Matter, record_fact, file, create, save, release, submit, IsTooLarge}
-use Rattle.lawful.proofs.Facts.{some_same, none_some}
+use Rattle.lawful.proofs.Facts.{none_some}
 use Rattle.lawful.proofs.Journals.{lawful_then, journals_lawful}
 use Rattle.lawful.proofs.AddsOrIsTooLarge.{adds_or_is_too_large}
 use Rattle.next_step.specs.Views.{Seen, Views}
 use Rattle.next_step.specs.Next.{Next, get, act, done, next_by, worker_next}
 use Rattle.next_step.specs.Changes.{Change, change_of, AddsFor, ViewsOf, number_seen}
 use Rattle.next_step.specs.Runner.{RunNext, read, finish, already_finished, no_outcome, not_due, due_at, by_plan, by_outcome, runner_next, finish_change}
-use Rattle.next_step.specs.Replies.{Reply, found, accepted, no_object, exists, conflict, fault, seen}
+use Rattle.next_step.specs.Replies.{Reply, found, accepted, no_object, exists, conflict, seen}
 use Rattle.next_step.specs.Calls.{Did}
-use Rattle.next_step.specs.Backward.{read_back, GotBack, back_of}
+use Rattle.next_step.specs.Backward.{GotBack, back_of}
 use Rattle.next_step.specs.Hands.{Given, for_flow, for_pod, Hand, CallNote, answer_of}
-use Rattle.next_step.specs.Plays.{EndsJob, Stepped, has_none, gets, changes, is_full, is_done, gets_pod, finishes, ends, ScheduleStep, give_job, make_step, restart, set_lag, set_clock, Stage, HasHand, Plays, gave, stepped, restarted, lagged, ticked, stayed, failed}
-use Rattle.next_laws.specs.Playing.{HasSeen, HandHasSeen, IsLawfulStage, HandIsThere, Fails, NoneFails, IsPlayed, StepIsPlayed}
+use Rattle.next_step.specs.Plays.{EndsJob, Stepped, has_none, gets, changes, is_full, is_done, gets_pod, finishes, ends, ScheduleStep, give_job, make_step, restart, set_lag, set_clock, Stage, Plays, gave, stepped, restarted, lagged, ticked, stayed}
+use Rattle.next_laws.specs.Playing.{HasSeen, Fails, NoneFails, IsPlayed, StepIsPlayed}
 use Rattle.next_laws.proofs.Reasons.{Reason, by_start, by_end, by_grant, by_wait, by_look, by_arming, by_timer, by_command, by_absence, by_save, by_past, by_over, reason}
 use Rattle.next_laws.proofs.Acting.{act_is_new}
 use Rattle.next_laws.proofs.ReadingBack.{reads_something}
@@ -56,10 +56,10 @@ record Does (h : Story) (c : Change) : Type 0 where
   well : Fails (answer_of reply) → ⊥
 
 -- the change is of what its entry is about, from a version that the object has had; from none a content is made
-record IsFit (h : Story) (c : Change) : Type 0 where
-  about : is_about c.key c.event.entry ≡ true
-  had : c.number ≤ number_at h c.key
-  makes : c.number ≡ 0 → (x : Content) × (c.event.made ≡ Some x)
+pub record IsFit (h : Story) (c : Change) : Type 0 where
+  pub about : is_about c.key c.event.entry ≡ true
+  pub had : c.number ≤ number_at h c.key
+  pub makes : c.number ≡ 0 → (x : Content) × (c.event.made ≡ Some x)
 
 first_is : (e : Event Content) → (x : Content) × (e.made ≡ Some x) → (v : Version Content) × (next_version apply None e ≡ Some v)
 first_is e m = (record { number = 1; content = m.0 }, ap (λ (o : Option Content). elim o [ None ↦ None | Some x ↦ Some record { number = 1; content = x } ]) m.1)
@@ -118,11 +118,11 @@ module _ (h : Story) (c : Change) (fit : IsFit h c) where
 -- ---- each change that is next is fit
 
 -- an object that was seen has a number, and its number was passed or stands
-record WasSeen (h : Story) (k : Key) (n : ℕ) : Type 0 where
-  had : n ≤ number_at h k
-  some : n ≡ 0 → ⊥
+pub record WasSeen (h : Story) (k : Key) (n : ℕ) : Type 0 where
+  pub had : n ≤ number_at h k
+  pub some : n ≡ 0 → ⊥
 
-was_seen : (h : Story) (k : Key) (n : ℕ) (c : Content) (t : ℕ) → IsVersionOf apply h k n c t → WasSeen h k n
+pub was_seen : (h : Story) (k : Key) (n : ℕ) (c : Content) (t : ℕ) → IsVersionOf apply h k n c t → WasSeen h k n
 was_seen h k n c t is =
     let now = still_stands apply h is.before k record { number = n; content = c } is.extends is.stood in
     record {
@@ -142,13 +142,13 @@ module _ (D : Document) (h : Story) (w : Text) (v : Views) (s : Seen Flow) (view
   book_seen : (b : Seen Book) → v.book ≡ Some b → WasSeen h Locks (number_seen v.book)
   book_seen b e = subst (λ o. WasSeen h Locks (number_seen o)) (sym e) (was_seen h Locks b.number (OfLocks b.content) b.tick (views.book b e))
 
-  abbrev Fit : Matter → Type 0
+  abbrev pub Fit : Matter → Type 0
   Fit m = IsFit h (change_of w v s facts m)
 
   fact_fit : Fit (record_fact fact.Started)
   fact_fit = fit_write h (change_of w v s facts (record_fact fact.Started)) (same_key-refl (Workflow w)) flow_seen
 
-  fit_by : (m : Matter) → Reason D w v s m → Fit m
+  pub fit_by : (m : Matter) → Reason D w v s m → Fit m
   fit_by m (by_start k) = fact_fit
   fit_by m (by_end p o r) = fact_fit
   fit_by m (by_grant p l r i k) = fact_fit

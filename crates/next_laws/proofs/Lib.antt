@@ -20,3 +20,5 @@ pub mod Playing
 pub mod Following
 pub mod RoundsEnd
 pub mod WorkedSchedule
+pub mod VersionsCounted
+pub mod RunsQuiet

@@ -1,10 +1,9 @@
 -- Why jobs, rounds and runs that nobody disturbs end.
-use Rattle.std.proofs.Common.{◌≡◌, ◌⊎◌, inl, inr, ℕ, suc, ◌+◌, ◌*◌, ◌<◌, ◌≤◌, List, [], ◌∷◌, ◌++◌, length, length-append, lit≤, refl, sym, ◌∙◌, ap, subst, Option, Some, None, arith}
-use Rattle.tree_types.specs.declared.outcome.Outcome.{Outcome}
+use Rattle.std.proofs.Common.{◌≡◌, ◌⊎◌, inl, inr, ℕ, suc, ◌+◌, ◌*◌, ◌<◌, ◌≤◌, List, [], ◌∷◌, length, length-append, lit≤, refl, sym, ◌∙◌, ap, subst, Some, arith}
 use Rattle.tree_types.specs.declared.entry.Key.TheVariants.{Pod}
 use Rattle.meaning.specs.Trees.{most_nodes}
-use Rattle.history.specs.History.{Extends, grown, clock_of, IsVersionOf}
-use Rattle.history.proofs.Extends.{extends_itself, extends_later, extends_grown, lawful-grown}
+use Rattle.history.specs.History.{Extends, grown, IsVersionOf}
+use Rattle.history.proofs.Extends.{extends_itself, extends_later, lawful-grown}
 use Rattle.law.specs.Documents.{Text, Document}
 use Rattle.law.specs.Contents.{PodObject, Content, OfWorkflow, OfPod, OfLocks, OfCaches, apply, Story}
 use Rattle.law.specs.Justified.{Justified, IsLawful}
@@ -21,7 +20,7 @@ use Rattle.next_step.specs.Hands.{Given}
 use Rattle.next_step.specs.Plays.{tick_event}
 use Rattle.next_step.specs.Rounds.{WorkerEnds, by_done, by_full, by_get, by_change, pod_of_reply, JobRan, worker_ran, runner_missed, runner_rested, runner_finished, JobsRan, no_more, one_more, entries_in, RunRan, last_round, next_round, then_ticks, tick_fails}
 use Rattle.next_laws.specs.Sizes.{most_calls}
-use Rattle.next_laws.specs.Ends.{calls_within, Within, RoundsEnd}
+use Rattle.next_laws.specs.Ends.{Within, RoundsEnd}
 use Rattle.next_laws.proofs.Acting.{acts_still, finishes_still}
 use Rattle.next_laws.proofs.Keeping.{did_extends, goes_on_from}
 use Rattle.next_laws.proofs.Viewing.{now_version, views_stay}
@@ -51,7 +50,7 @@ entries_since h g b = ap length b.goes_on ∙ length-append h.events b.rest
 
 -- ---- a job
 
-stays_viewed : (D : Document) (w : Text) (h : Story) (v : Views) (g : Story) (u : Views) → ViewsOf h w v → Undisturbed D w h v g u → ViewsOf g w u
+pub stays_viewed : (D : Document) (w : Text) (h : Story) (v : Views) (g : Story) (u : Views) → ViewsOf h w v → Undisturbed D w h v g u → ViewsOf g w u
 stays_viewed D w h v g u a stays = a
 stays_viewed D w h v g u a (reads k r x e got on rest) =
     stays_viewed D w h x g u (views_stay.reads D h h w v x k r (extends_itself h) a e (got_answers h k r got) on) rest
@@ -123,7 +122,7 @@ job_ends D h g job calls faults valid l (runner_finished w name r s x o i got e 
 
 -- ---- a round
 
-jobs_end : (D : Document) (h g : Story) (jobs : List Given) (calls faults : ℕ) → HasValidWorkflows D → IsLawful D h → JobsRan D h jobs calls faults g → Within D h g (length jobs) calls
+pub jobs_end : (D : Document) (h g : Story) (jobs : List Given) (calls faults : ℕ) → HasValidWorkflows D → IsLawful D h → JobsRan D h jobs calls faults g → Within D h g (length jobs) calls
 jobs_end D h g jobs calls faults valid l no_more = record { lawful = l; entries = 0; more = none_more h; bounded = omega arith }
 jobs_end D h g jobs calls faults valid l (one_more {i = i} {job = job} {others = others} {calls = first} {faults = fails} {more = more} {fail = fail} ran rest) =
     let a = job_ends D h i job first fails valid l ran in
@@ -139,7 +138,7 @@ jobs_end D h g jobs calls faults valid l (one_more {i = i} {job = job} {others =
 
 -- ---- a run
 
-tick_lawful : (D : Document) (h : Story) (t : ℕ) → IsLawful D h → next_tick D h ≡ Some t → IsLawful D (grown h (tick_event t))
+pub tick_lawful : (D : Document) (h : Story) (t : ℕ) → IsLawful D h → next_tick D h ≡ Some t → IsLawful D (grown h (tick_event t))
 tick_lawful D h t l e =
     let is_next = subst (IsNext D h) e (next_tick_is_next D h l) in
     record { start = l.start; each = lawful-grown (Justified D) h (tick_event t) l.each (refl, is_next.1) }

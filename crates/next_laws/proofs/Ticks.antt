@@ -25,12 +25,12 @@ use Rattle.next_laws.proofs.Firsts.{among_filter}
 
 -- ---- members
 
-among_left : {A : Type 0} (xs ys : List A) (x : A) → Among x xs → Among x (xs ++ ys)
+pub among_left : {A : Type 0} (xs ys : List A) (x : A) → Among x xs → Among x (xs ++ ys)
 among_left [] ys x i = absurd i
 among_left (y ∷ xs) ys x (inl e) = inl e
 among_left (y ∷ xs) ys x (inr i) = inr (among_left xs ys x i)
 
-among_right : {A : Type 0} (xs ys : List A) (x : A) → Among x ys → Among x (xs ++ ys)
+pub among_right : {A : Type 0} (xs ys : List A) (x : A) → Among x ys → Among x (xs ++ ys)
 among_right [] ys x i = i
 among_right (y ∷ xs) ys x i = inr (among_right xs ys x i)
 
@@ -68,10 +68,10 @@ filter_among {A} {B} f (x ∷ xs) y i = by (f x) refl i (λ j. filter_among f xs
 
 -- ---- what stands was made by an entry
 
-record Made (h : Story) (P : Entry → Type 0) : Type 0 where
-  by : Event Content
-  place : Among by h.events
-  makes : P by.entry
+pub record Made (h : Story) (P : Entry → Type 0) : Type 0 where
+  pub by : Event Content
+  pub place : Among by h.events
+  pub makes : P by.entry
 
 made_on : (h : Story) (e : Event Content) (P : Entry → Type 0) → Made h P → Made (grown h e) P
 made_on h e P m = record { by = m.by; place = among_left h.events (e ∷ []) m.by m.place; makes = m.makes }
@@ -79,18 +79,18 @@ made_on h e P m = record { by = m.by; place = among_left h.events (e ∷ []) m.b
 made_now : (h : Story) (e : Event Content) (P : Entry → Type 0) → P e.entry → Made (grown h e) P
 made_now h e P p = record { by = e; place = among_right h.events (e ∷ []) e (inl refl); makes = p }
 
-record IsCreate (w n : Text) (e : Entry) : Type 0 where
-  path : Path
-  begin : ℕ
-  is : e ≡ Create w n path begin
+pub record IsCreate (w n : Text) (e : Entry) : Type 0 where
+  pub path : Path
+  pub begin : ℕ
+  pub is : e ≡ Create w n path begin
 
-record IsSubmit (w : Text) (e : Entry) : Type 0 where
-  old : Option Text
-  facts : Facts
-  is : e ≡ Submit w old facts
+pub record IsSubmit (w : Text) (e : Entry) : Type 0 where
+  pub old : Option Text
+  pub facts : Facts
+  pub is : e ≡ Submit w old facts
 
 module _ (D : Document) where
-  abbrev PodsMade : Story → Type 0
+  abbrev pub PodsMade : Story → Type 0
   PodsMade h = (w n : Text) (pod : PodObject) → pod_of h w n ≡ Some pod → Made h (IsCreate w n)
 
   pods_step : (h : Story) (e : Event Content) → IsLawful D h → Justified D h e → PodsMade h → PodsMade (grown h e)
@@ -101,10 +101,10 @@ module _ (D : Document) where
       by (created p t q cj m) = made_now h e (IsCreate w n) record { path = p; begin = t; is = q }
       by (ended_now o q fj is) = made_on h e (IsCreate w n) (ih w n fj.pod fj.stands)
 
-  pods_made : (h : Story) → IsLawful D h → PodsMade h
+  pub pods_made : (h : Story) → IsLawful D h → PodsMade h
   pods_made h l = by_lawful D PodsMade pods_step (λ w n pod s. none_some pod s) h l
 
-  abbrev FlowsMade : Story → Type 0
+  abbrev pub FlowsMade : Story → Type 0
   FlowsMade h = (w : Text) (f : Flow) → HasFlow h w f → Made h (IsSubmit w)
 
   flows_step : (h : Story) (e : Event Content) → IsLawful D h → Justified D h e → FlowsMade h → FlowsMade (grown h e)
@@ -115,7 +115,7 @@ module _ (D : Document) where
       by (submitted old facts q sj m) = made_now h e (IsSubmit w) record { old = old; facts = facts; is = q }
       by (written n facts q wj is) = made_on h e (IsSubmit w) (ih w wj.flow wj.stands)
 
-  flows_made : (h : Story) → IsLawful D h → FlowsMade h
+  pub flows_made : (h : Story) → IsLawful D h → FlowsMade h
   flows_made h l = by_lawful D FlowsMade flows_step (λ w f s. none_some f s) h l
 
   -- ---- a tick at which something is due is one of the ticks

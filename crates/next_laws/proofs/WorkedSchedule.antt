@@ -1,18 +1,17 @@
 -- Worked schedules: two hands on one workflow of one pod, of which the second's write meets a conflict; one with a lag and a
 -- restart, whose late read leads to a conflict too; and one in which a runner waits for a tick. And what reads back.
-use Rattle.std.proofs.Common.{◌≡◌, ℕ, lit≤, List, [], ◌∷◌, ◌++◌, refl, Some, None, arith}
+use Rattle.std.proofs.Common.{◌≡◌, ℕ, lit≤, List, [], ◌∷◌, refl, Some, None, arith}
 use Rattle.tree_types.specs.declared.fact.Fact.TheVariants as fact
 use Rattle.tree_types.specs.declared.entry.Key.TheVariants.{Workflow, Pod, Caches}
 use Rattle.tree_types.specs.declared.entry.Entry.{Entry}
 use Rattle.tree_types.specs.declared.entry.Entry.TheVariants.{Write, Finish}
-use Rattle.tree_types.specs.declared.phase.Phase.TheVariants as phase
 use Rattle.tree_types.specs.declared.outcome.Outcome.{Outcome}
 use Rattle.meaning.specs.Trees.{closed}
 use Rattle.history.specs.History.{event, grown}
 use Rattle.law.specs.Documents.{ended_by}
 use Rattle.law.specs.Contents.{OfWorkflow, OfPod, OfCaches, flow, begun_pod, finished, Story}
 use Rattle.law.specs.Due.{record_fact}
-use Rattle.next_step.specs.Views.{Views, nothing}
+use Rattle.next_step.specs.Views.{nothing}
 use Rattle.next_step.specs.Replies.{found, accepted, conflict, seen}
 use Rattle.next_step.specs.Backward.{read_back, back_of, lag_after}
 use Rattle.next_step.specs.Hands.{for_flow, for_pod, Hand, idle_hand, CallNote, note, op_get, op_write, op_tick, was_read, was_accepted, was_moved, was_behind}

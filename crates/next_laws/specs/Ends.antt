@@ -4,6 +4,7 @@ use Rattle.meaning.specs.Trees.{most_nodes}
 use Rattle.law.specs.Documents.{Document}
 use Rattle.law.specs.Contents.{Story}
 use Rattle.law.specs.Justified.{IsLawful}
+use Rattle.law.specs.Due.{IsQuiet}
 use Rattle.lawful.specs.Manifests.{HasValidWorkflows}
 use Rattle.next_step.specs.Hands.{Given}
 use Rattle.next_step.specs.Rounds.{JobRan, JobsRan, entries_in, RunRan}
@@ -33,3 +34,9 @@ pub record RoundsEnd : Type 0 where
   pub run :
       (D : Document) (h g : Story) (rounds faults : ℕ) → HasValidWorkflows D → IsLawful D h →
       RunRan D h rounds faults g → rounds + entries_in h ≤ entries_in g + faults + 1
+
+-- and leaves a lawful history in which nothing is due, and nothing will be at a later tick
+abbrev pub RunEndsQuiet : Type 0
+RunEndsQuiet =
+    (D : Document) (h g : Story) (rounds faults : ℕ) → HasValidWorkflows D → IsLawful D h →
+    RunRan D h rounds faults g → IsLawful D g × IsQuiet D g

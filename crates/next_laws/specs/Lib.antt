@@ -6,3 +6,4 @@ pub mod Sizes
 pub mod Viewing
 pub mod Playing
 pub mod Ends
+pub mod ReadsBack

@@ -1,5 +1,5 @@
 -- Whatever a schedule plays is lawful, and each of its steps can be played.
-use Rattle.std.specs.Prelude.{◌≡◌, ℕ, List, [], ◌∷◌, Some, None, Option, slice_get, replicate}
+use Rattle.std.specs.Prelude.{◌≡◌, ℕ, List, [], ◌∷◌, Some, None, Option, replicate}
 use Rattle.tree_types.specs.declared.entry.Key.TheVariants as of_key
 use Rattle.history.specs.History.{IsVersionOf, Extends}
 use Rattle.law.specs.Documents.{Document}
@@ -8,7 +8,7 @@ use Rattle.law.specs.Justified.{IsLawful}
 use Rattle.lawful.specs.Manifests.{HasValidWorkflows}
 use Rattle.next_step.specs.Views.{Seen, Views, nothing}
 use Rattle.next_step.specs.Changes.{ViewsOf}
-use Rattle.next_step.specs.Hands.{Given, for_flow, for_pod, Hand, idle_hand, CallNote, Answer, was_read, was_accepted, was_absent, was_there, was_moved, was_behind, has_failed}
+use Rattle.next_step.specs.Hands.{Given, for_flow, for_pod, Hand, idle_hand, CallNote, Answer, has_failed}
 use Rattle.next_step.specs.Plays.{ScheduleStep, give_job, make_step, restart, set_lag, set_clock, Stage, stage, HasHand, Plays, Played}
 
 -- what a hand has read in the oldest of its jobs, of what was seen: a worker its views, a runner its pod

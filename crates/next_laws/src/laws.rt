@@ -7,7 +7,8 @@ ghost use Rattle.next_laws.specs.NextTicks.{NextTickIsNext};
 ghost use Rattle.next_laws.specs.Jobs.{UndisturbedGoesWell, StillRoundIsIdle};
 ghost use Rattle.next_laws.specs.Sizes.{ReadsLeaveFewer, RefusalsLeaveFewer, CallsAreBounded, UndisturbedEnds};
 ghost use Rattle.next_laws.specs.Playing.{PlaysLawfully, StepIsPlayed};
-ghost use Rattle.next_laws.specs.Ends.{RoundsEnd};
+ghost use Rattle.next_laws.specs.Ends.{RoundsEnd, RunEndsQuiet};
+ghost use Rattle.next_laws.specs.ReadsBack.{ReadsBack};
 
 /// What a worker does next, by views of a history, is justified wherever it can be accepted.
 pub fn acts_still()
@@ -69,6 +70,11 @@ pub fn undisturbed_ends()
     ensures { UndisturbedEnds }
 {}
 
+/// A get that reads versions back reads the one whose number is lower by so many, but at least 1.
+pub fn reads_back()
+    ensures { ReadsBack }
+{}
+
 /// Every history that a schedule plays is lawful, whatever its lags and restarts, and whichever calls fail.
 pub fn plays_lawfully()
     ensures { PlaysLawfully }
@@ -82,4 +88,9 @@ pub fn step_is_played()
 /// A job that nobody disturbs ends, and so does a round; a run has at most one round more than entries and faults.
 pub fn rounds_end()
     ensures { RoundsEnd }
+{}
+
+/// The end of a run is quiet.
+pub fn run_ends_quiet()
+    ensures { RunEndsQuiet }
 {}
