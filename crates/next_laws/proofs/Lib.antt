@@ -15,3 +15,8 @@ pub mod WorkedJobs
 pub mod WorkedConflict
 pub mod Viewing
 pub mod StayingLawful
+pub mod ReadingBack
+pub mod Playing
+pub mod Following
+pub mod RoundsEnd
+pub mod WorkedSchedule

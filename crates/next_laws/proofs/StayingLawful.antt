@@ -23,7 +23,7 @@ is_read h (Pod w name) x is = now_version h (Pod w name) x.number x.content x.ti
 is_read h Locks x is = now_version h Locks x.number x.content x.tick is
 is_read h Caches x is = is
 
-got_answers : (h : Story) (k : Key) (r : Reply) → Got h k r → Answers h k r
+pub got_answers : (h : Story) (k : Key) (r : Reply) → Got h k r → Answers h k r
 got_answers h k (found x) g = is_read h k x g
 got_answers h k no_object g = g
 got_answers h k fault g = tt
@@ -32,7 +32,7 @@ got_answers h k exists g = absurd g
 got_answers h k (conflict a b) g = absurd g
 
 -- a change that is still justified leaves a lawful history
-did_lawful : (D : Document) (h i : Story) (c : Change) (r : Reply) → ChangeStill D h c → IsLawful D h → Did h c r i → IsLawful D i
+pub did_lawful : (D : Document) (h i : Story) (c : Change) (r : Reply) → ChangeStill D h c → IsLawful D h → Did h c r i → IsLawful D i
 did_lawful D h i c (accepted x) still l d =
     subst (IsLawful D) (sym d.grows) record { start = l.start; each = lawful-grown (Justified D) h c.event l.each (still h (extends_itself h) l.each d.unmoved) }
 did_lawful D h i c exists still l d = subst (IsLawful D) (sym d.2) l

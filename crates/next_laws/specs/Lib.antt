@@ -4,3 +4,5 @@ pub mod NextTicks
 pub mod Jobs
 pub mod Sizes
 pub mod Viewing
+pub mod Playing
+pub mod Ends

@@ -6,6 +6,8 @@ ghost use Rattle.next_laws.specs.Fresh.{FreshActsAreDue};
 ghost use Rattle.next_laws.specs.NextTicks.{NextTickIsNext};
 ghost use Rattle.next_laws.specs.Jobs.{UndisturbedGoesWell, StillRoundIsIdle};
 ghost use Rattle.next_laws.specs.Sizes.{ReadsLeaveFewer, RefusalsLeaveFewer, CallsAreBounded, UndisturbedEnds};
+ghost use Rattle.next_laws.specs.Playing.{PlaysLawfully, StepIsPlayed};
+ghost use Rattle.next_laws.specs.Ends.{RoundsEnd};
 
 /// What a worker does next, by views of a history, is justified wherever it can be accepted.
 pub fn acts_still()
@@ -65,4 +67,19 @@ pub fn calls_are_bounded()
 /// A job that nobody disturbs ends.
 pub fn undisturbed_ends()
     ensures { UndisturbedEnds }
+{}
+
+/// Every history that a schedule plays is lawful, whatever its lags and restarts, and whichever calls fail.
+pub fn plays_lawfully()
+    ensures { PlaysLawfully }
+{}
+
+/// At each stage that a schedule has reached, its next step can be played, with no call that fails.
+pub fn step_is_played()
+    ensures { StepIsPlayed }
+{}
+
+/// A job that nobody disturbs ends, and so does a round; a run has at most one round more than entries and faults.
+pub fn rounds_end()
+    ensures { RoundsEnd }
 {}

@@ -5,3 +5,7 @@ pub mod Replies
 pub mod Runner
 pub mod Ticks
 pub mod Calls
+pub mod Backward
+pub mod Hands
+pub mod Plays
+pub mod Rounds
