@@ -25,34 +25,34 @@ use Rattle.next_step.specs.Runner.{not_due, runner_next}
 use Rattle.next_step.specs.Calls.{Did, Undisturbed, stays, reads, acts}
 use Rattle.next_step.specs.Ticks.{next_tick}
 
-abbrev w : Text
+abbrev pub w : Text
 w = codes "w"
 
-abbrev m : Manifest
+abbrev pub m : Manifest
 m = workflow_of w (template (codes "main") body.Pod ∷ [])
 
 -- each pod takes five seconds
-abbrev plan : PlannedOutcome
+abbrev pub plan : PlannedOutcome
 plan = record { phase = phase.Succeeded; result = None; params = []; transient = false; seconds = 5; ended = refl }
 
-abbrev D : Document
+abbrev pub D : Document
 D = record { workflows = m ∷ []; limits = []; planned = λ w n. Some plan; commands = [] }
 
 -- submitted, and then started
-abbrev h : Story
+abbrev pub h : Story
 h = record { start = starts D; events = event (Submit w None []) (Some (OfWorkflow (flow m []))) ∷ [] }
 
-abbrev g : Story
+abbrev pub g : Story
 g = grown h (event (Write w 2 (fact.Started ∷ [])) None)
 
-abbrev at_first : Seen Flow
+abbrev pub at_first : Seen Flow
 at_first = seen 1 (flow m []) 0
 
 -- both have read the workflow
-abbrev has_read : Views
+abbrev pub has_read : Views
 has_read = record nothing { flow = Some at_first }
 
-abbrev has_written : Views
+abbrev pub has_written : Views
 has_written = record nothing { flow = Some (seen 2 (flow m (fact.Started ∷ [])) 0) }
 
 first_writes : Undisturbed D w h nothing g has_written
@@ -76,7 +76,7 @@ ends_there = refl
 old_version : IsVersionOf apply g (Workflow w) 1 (OfWorkflow (flow m [])) 0
 old_version = record { before = h; extends = record { same_start = refl; rest = event (Write w 2 (fact.Started ∷ [])) None ∷ []; goes_on = refl }; stood = refl; clock = refl }
 
-old_views : ViewsOf g w has_read
+pub old_views : ViewsOf g w has_read
 old_views = record {
   moment = h;
   extends = record { same_start = refl; rest = event (Write w 2 (fact.Started ∷ [])) None ∷ []; goes_on = refl };
@@ -88,10 +88,10 @@ old_views = record {
 
 -- ---- the next tick
 
-abbrev main : Path
+abbrev pub main : Path
 main = path (Main ∷ [])
 
-abbrev running : Story
+abbrev pub running : Story
 running = grown g (event (Create w w main 0) (Some (OfPod (begun_pod main 0))))
 
 nothing_waits : next_tick D g ≡ None
