@@ -13,6 +13,8 @@ pub mod Few
 pub mod Ending
 pub mod WorkedJobs
 pub mod WorkedConflict
+pub mod WorkedPremises
+pub mod WorkedStill
 pub mod Viewing
 pub mod StayingLawful
 pub mod ReadingBack
