@@ -14,6 +14,7 @@ pub mod Ending
 pub mod WorkedJobs
 pub mod WorkedConflict
 pub mod WorkedPremises
+mod WorkedPlaying
 pub mod WorkedStill
 pub mod Viewing
 pub mod StayingLawful
