@@ -23,7 +23,7 @@ use Rattle.wf_manifest.specs.declared.templates.Template.{Template}
 use Rattle.wf_manifest.specs.declared.manifest.Manifest.{Manifest}
 use Rattle.meaning.specs.Answers.{path, answers, first_of, settled_in, carried_in, outcome_at}
 use Rattle.meaning.specs.Lines.{no_outputs}
-use Rattle.meaning.specs.Trees.{lines, nodes_in, wants_in, tree, wants, closed}
+use Rattle.meaning.specs.Trees.{lines, wants_in, tree, wants, closed}
 use Rattle.meaning.proofs.Samples.{template, container, workflow_of, call, call_with, mutex, succeeded, failed, settled}
 use Rattle.growth.specs.Growth.{Among, SaysMore, IsFair, KeepsTicks, Unanswered, IsOver}
 use Rattle.growth.specs.Writes.{unwritten, written, IsSubmission, IsLawfulJournal}

@@ -1,6 +1,6 @@
 -- A worked round in which no entry came: the pod of a workflow takes five seconds, and neither the worker nor the pod's runner
 -- has anything to do. So the state is idle.
-use Rattle.std.proofs.Common.{◌≡◌, Bool, true, false, cond, ◌&&◌, bytes_eq, codes, lit≤, [], ◌∷◌, refl, sym, subst, Option, Some, None, inl, arith}
+use Rattle.std.proofs.Common.{◌≡◌, Bool, true, false, cond, ◌&&◌, bytes_eq, [], ◌∷◌, refl, sym, subst, Option, Some, None, inl, arith}
 use Rattle.tree_types.specs.declared.phase.Phase.TheVariants as phase
 use Rattle.tree_types.specs.declared.fact.Fact.TheVariants as fact
 use Rattle.tree_types.specs.declared.node.Kind.TheVariants as kind
@@ -13,14 +13,13 @@ use Rattle.history.specs.History.{Event, event, Version, next_version, map_conte
 use Rattle.history.proofs.Keys.{bytes_eq-true, first_of, second_of}
 use Rattle.history.proofs.Carrying.{sometime_now}
 use Rattle.law.specs.Documents.{Text}
-use Rattle.law.specs.Contents.{Flow, PodObject, Content, OfWorkflow, OfPod, flow, begun_pod, Story, starts, apply, flow_in, pod_in, pod_of, HasFlow}
+use Rattle.law.specs.Contents.{Flow, PodObject, Content, OfWorkflow, OfPod, flow, begun_pod, apply, flow_in, pod_in, pod_of, HasFlow}
 use Rattle.law.specs.Justified.{PodWanted, IsLawful}
 use Rattle.law.specs.Due.{IsNext, IsIdle}
-use Rattle.lawful.proofs.Facts.{some_same, none_some}
+use Rattle.lawful.proofs.Facts.{none_some}
 use Rattle.next_step.specs.Views.{Seen, Views, nothing}
 use Rattle.next_step.specs.Replies.{found, seen}
 use Rattle.next_step.specs.Calls.{stays, reads}
-use Rattle.next_step.specs.Ticks.{next_tick}
 use Rattle.next_laws.specs.Jobs.{as_done, WorkerRan, RunnerRan, StillRound}
 use Rattle.next_laws.proofs.Ticks.{next_tick_is_next}
 use Rattle.next_laws.proofs.Rounds.{still_round_is_idle}
