@@ -33,3 +33,5 @@ mod tags;
 mod texts;
 #[cfg(test)]
 mod times;
+#[cfg(test)]
+mod workflows;

@@ -4,22 +4,32 @@ ghost use Rattle.history.specs.History.{History, Event};
 
 use std::marker::Brand;
 
-/// A property of histories.
+/// A property of histories, for each of some values.
 pub trait Property<C> {
-    /// The history has it.
-    ghost holds: { History C → Type 0 };
+    /// The values.
+    ghost About: { Type 0 };
+
+    /// The history has it, for this value.
+    ghost holds: { About → History C → Type 0 };
 }
 
-/// A rule for entries.
+/// A rule for entries, for each of some laws.
 pub trait Rule<C> {
-    /// By it the entry is justified by the history before it.
-    ghost justified: { History C → Event C → Type 0 };
+    /// The laws.
+    ghost Law: { Type 0 };
+
+    /// By this law the entry is justified by the history before it.
+    ghost justified: { Law → History C → Event C → Type 0 };
 }
 
 impl<C> Property<C> for Brand {
-    ghost holds = { λ h. Unit };
+    ghost About = { Unit };
+
+    ghost holds = { λ a h. Unit };
 }
 
 impl<C> Rule<C> for Brand {
-    ghost justified = { λ h e. Unit };
+    ghost Law = { Unit };
+
+    ghost justified = { λ law h e. Unit };
 }

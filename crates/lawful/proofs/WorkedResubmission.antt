@@ -11,6 +11,7 @@ use Rattle.wf_manifest.specs.declared.manifest.Manifest.{Manifest}
 use Rattle.meaning.specs.Answers.{Facts, path}
 use Rattle.meaning.specs.Trees.{closed}
 use Rattle.history.specs.History.{Event, event}
+use Rattle.history.proofs.Extends.{extends_itself}
 use Rattle.history.specs.Sometime.{Sometime}
 use Rattle.history.proofs.Carrying.{sometime_now}
 use Rattle.law.specs.Documents.{Text, PlannedOutcome, Resubmission, Resubmit, Document}
@@ -21,6 +22,8 @@ use Rattle.tree_types.specs.declared.path.Sel.TheVariants.{Main, Task as task_se
 use Rattle.meaning.specs.Lines.{no_outputs}
 use Rattle.meaning.proofs.Samples.{dag_workflow, call, task, succeeded, failed}
 use Rattle.law.specs.Due.{record_fact, create, submit, due_of}
+use Rattle.lawful.specs.Still.{FlowView}
+use Rattle.lawful.proofs.Still.{resubmitted_still}
 
 abbrev a : Text
 a = codes "a"
@@ -104,6 +107,9 @@ running p n = record { path = p; name = n; kind = kind.Pod; phase = phase.Runnin
 now : (P : Story → Type 0) (n : ℕ) → P (story n) → Sometime P (story n)
 now P n p = sometime_now P (story n) p
 
+submits : Justified D (story 0) (event (Submit a None []) (Some (OfWorkflow (flow m []))))
+submits = record { absent = refl; manifest = m; given = inl refl; name = refl; no_facts = refl; content = refl }
+
 j2 : Justified D (story 1) (writes_now a 2 (fact.Started ∷ []))
 j2 = (refl, record { flow = flow m []; stands = refl; number = refl; fact = fact.Started; adds = record { beginnings = []; parts = refl; closes = closed refl; fits = omega arith; is_new = refl }; justified = tt })
 
@@ -172,7 +178,7 @@ j13 = (
 )
 
 pub anew_lawful : IsLawful D (story 13)
-anew_lawful = record { start = refl; each = (record { absent = refl; manifest = m; given = inl refl; name = refl; no_facts = refl; content = refl }, (j2, (j3, (j4, (j5, (j6, (j7, (j8, (j9, (j10, (j11, (j12, (j13, tt))))))))))))) }
+anew_lawful = record { start = refl; each = (submits, (j2, (j3, (j4, (j5, (j6, (j7, (j8, (j9, (j10, (j11, (j12, (j13, tt))))))))))))) }
 
 -- ---- what is refused
 
@@ -199,3 +205,13 @@ due_anew = refl
 
 due_at_end : due_of D (story 13) b (flow o K2) ≡ []
 due_at_end = refl
+
+-- ---- what is added by a view of the old workflow
+
+abbrev view : FlowView (story 8) a
+view = record { number = 4; flow = flow m J3; tick = 0; shown = record { before = story 8; extends = extends_itself (story 8); stood = refl; clock = refl } }
+
+submits_anew : Justified D (story 8) (event (Submit b (Some a) S) (Some (OfWorkflow (flow o S))))
+submits_anew =
+    resubmitted_still D (story 8) a view anew (inl refl) refl (lit≤ tt) refl
+    (story 8) (extends_itself (story 8)) (submits, (j2, (j3, (j4, (j5, (j6, (j7, (j8, tt)))))))) refl

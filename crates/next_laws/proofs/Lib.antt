@@ -13,6 +13,9 @@ pub mod Few
 pub mod Ending
 pub mod WorkedJobs
 pub mod WorkedConflict
+pub mod WorkedPremises
+mod WorkedPlaying
+pub mod WorkedStill
 pub mod Viewing
 pub mod StayingLawful
 pub mod ReadingBack

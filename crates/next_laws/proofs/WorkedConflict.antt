@@ -76,7 +76,7 @@ ends_there = refl
 old_version : IsVersionOf apply g (Workflow w) 1 (OfWorkflow (flow m [])) 0
 old_version = record { before = h; extends = record { same_start = refl; rest = event (Write w 2 (fact.Started ∷ [])) None ∷ []; goes_on = refl }; stood = refl; clock = refl }
 
-old_views : ViewsOf g w has_read
+pub old_views : ViewsOf g w has_read
 old_views = record {
   moment = h;
   extends = record { same_start = refl; rest = event (Write w 2 (fact.Started ∷ [])) None ∷ []; goes_on = refl };

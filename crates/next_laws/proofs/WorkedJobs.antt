@@ -28,34 +28,34 @@ use Rattle.next_step.specs.Replies.{found, accepted, no_object, seen}
 use Rattle.next_step.specs.Runner.{read, finish, already_finished, runner_next}
 use Rattle.next_step.specs.Calls.{Undisturbed, stays, reads, acts, calls_of}
 
-abbrev w : Text
+abbrev pub w : Text
 w = codes "w"
 
-abbrev mutex : LockId
+abbrev pub mutex : LockId
 mutex = record { text = codes "mutex/m" }
 
-abbrev m : Manifest
+abbrev pub m : Manifest
 m = workflow_of w (record (template (codes "main") body.Pod) { lock = Some mutex } ∷ [])
 
-abbrev plan : PlannedOutcome
+abbrev pub plan : PlannedOutcome
 plan = record { phase = phase.Succeeded; result = None; params = []; transient = false; seconds = 0; ended = refl }
 
-abbrev D : Document
+abbrev pub D : Document
 D = record { workflows = m ∷ []; limits = []; planned = λ w n. Some plan; commands = [] }
 
-abbrev main : Path
+abbrev pub main : Path
 main = path (Main ∷ [])
 
-abbrev k : HolderKey
+abbrev pub k : HolderKey
 k = key w main
 
-abbrev r : Rank
+abbrev pub r : Rank
 r = record { priority = pos 0; created = pos 0; workflow = w; own = false; name = w }
 
-abbrev writes_now : ℕ → Facts → Event Content
+abbrev pub writes_now : ℕ → Facts → Event Content
 writes_now n facts = event (Write w n facts) None
 
-abbrev entries : List (Event Content)
+abbrev pub entries : List (Event Content)
 entries =
     event (Submit w None []) (Some (OfWorkflow (flow m [])))
     ∷ writes_now 2 (fact.Started ∷ [])
@@ -67,57 +67,57 @@ entries =
     ∷ event (Release mutex k) None
     ∷ []
 
-abbrev story : ℕ → Story
+abbrev pub story : ℕ → Story
 story n = record { start = starts D; events = take n entries }
 
-abbrev J1 : Facts
+abbrev pub J1 : Facts
 J1 = fact.Started ∷ []
 
-abbrev J2 : Facts
+abbrev pub J2 : Facts
 J2 = J1 ++ fact.Granted main ∷ []
 
-abbrev J3 : Facts
+abbrev pub J3 : Facts
 J3 = J2 ++ fact.Settled main succeeded ∷ []
 
 -- ---- the first job: two reads, two writes and a filing, a read that finds no pod, and the creation of the pod
 
-abbrev at_first : Seen Flow
+abbrev pub at_first : Seen Flow
 at_first = seen 1 (flow m []) 0
 
-abbrev started : Seen Flow
+abbrev pub started : Seen Flow
 started = seen 2 (flow m J1) 0
 
-abbrev granted : Seen Flow
+abbrev pub granted : Seen Flow
 granted = seen 3 (flow m J2) 0
 
-abbrev book_of_all : List Request → Book
+abbrev pub book_of_all : List Request → Book
 book_of_all rs = record { limits = []; requests = rs }
 
-abbrev filed_book : Book
+abbrev pub filed_book : Book
 filed_book = book_of_all (held (request mutex k r) ∷ [])
 
-abbrev v1 : Views
+abbrev pub v1 : Views
 v1 = record nothing { flow = Some at_first }
 
-abbrev v2 : Views
+abbrev pub v2 : Views
 v2 = record v1 { book = Some (seen 1 (book_of_all []) 0) }
 
-abbrev v3 : Views
+abbrev pub v3 : Views
 v3 = record v2 { flow = Some started }
 
-abbrev v4 : Views
+abbrev pub v4 : Views
 v4 = record v3 { book = Some (seen 2 filed_book 0) }
 
-abbrev v5 : Views
+abbrev pub v5 : Views
 v5 = record v4 { flow = Some granted }
 
-abbrev v6 : Views
+abbrev pub v6 : Views
 v6 = record v5 { pods = record { name = w; found = None } ∷ [] }
 
-abbrev v7 : Views
+abbrev pub v7 : Views
 v7 = record v6 { pods = record { name = w; found = Some (seen 1 (begun_pod main 0) 0) } ∷ record { name = w; found = None } ∷ [] }
 
-first_job : Undisturbed D w (story 1) nothing (story 5) v7
+pub first_job : Undisturbed D w (story 1) nothing (story 5) v7
 first_job =
     reads (Workflow w) (found (seen 1 (OfWorkflow (flow m [])) 0)) v1 refl record { stood = refl; clock = refl } refl
     (reads Locks (found (seen 1 (OfLocks (book_of_all [])) 0)) v2 refl record { stood = refl; clock = refl } refl

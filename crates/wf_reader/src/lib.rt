@@ -10,4 +10,5 @@ mod metadata;
 mod workflow;
 
 pub use first_form::read_first_form;
+pub use metadata::Created;
 pub use workflow::read_workflow;

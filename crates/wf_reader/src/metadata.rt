@@ -82,8 +82,9 @@ fn name_said(
 
 // ---- instants
 
-// The grammar of instants, in Unix seconds.
-struct Created;
+/// The grammar of instants, in Unix seconds.
+#[derive(Drop)]
+pub struct Created;
 
 impl Grammar for Created {
     type Meaning = i64;

@@ -1,0 +1,8 @@
+-- The names that are left decide.
+use Rattle.std.proofs.Common.{◌≡◌, drop, map}
+use Rattle.serde_json.specs.View.{view}
+use Rattle.item_reader.specs.Schedules.{has_all}
+use Rattle.item_reader.proofs.steps.has_all.Given as goal
+
+abbrev pub invariant-loop-i : goal.invariant-loop-i
+invariant-loop-i l = has_all (map (λ name. name.now) (drop l.i l.names)) (view l.step) ≡ has_all (map (λ name. name.now) l.names) (view l.step)
