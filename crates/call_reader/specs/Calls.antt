@@ -1,5 +1,5 @@
--- What calls of templates read as: each object is a list of lines in reading order, its refused fields first. The fields
--- are those of the field reference; which of them are refused, and by which refusal, is this project's own.
+-- What calls of templates read as: each object is a list of lines in reading order, its refused fields first. The
+-- fields are those of the field reference; which of them are refused, and by which refusal, is this project's own.
 use Rattle.std.specs.Prelude.{ℕ, List, [], ◌∷◌, Bool, true, false, ◌&&◌, ◌||◌, if◌then◌else◌, is_some, Option, Some, None, Ok, codes}
 use Rattle.serde_json.specs.Data.{Data, null, string}
 use Rattle.serde_json.specs.Find.{get}

@@ -1,4 +1,4 @@
--- Texts with tags, as kinds of values. That a text whose tags are faulty is refused as it is read is this project's own.
+-- Texts with tags, as kinds of values. That a text with a faulty tag is refused as it is read is this project's own.
 use Rattle.std.specs.Prelude.{ℕ, suc, List, Option, Some, None, Ok}
 use Rattle.std.specs.Result.{result_ok}
 use Rattle.serde_json.specs.Data.{Data, null, boolean, number, string, array, object, Items, no_items, item, Members, no_members, member}

@@ -1,5 +1,5 @@
 -- The premises of the laws of schedules, jobs and rounds hold together: each law, put to worked ones.
-use Rattle.std.proofs.Common.{◌≡◌, true, codes, List, [], ◌∷◌, refl, subst, Some, None, inl, inr}
+use Rattle.std.proofs.Common.{◌≡◌, ◌≤◌, ◌+◌, true, codes, List, [], ◌∷◌, refl, subst, Some, None, inl, inr}
 use Rattle.std.proofs.lemmas.List.Elements.{All-nil, All-cons}
 use Rattle.wf_manifest.specs.declared.templates.Body.TheVariants as body
 use Rattle.wf_manifest.specs.declared.templates.Template.{Template}
@@ -11,7 +11,7 @@ use Rattle.lawful.specs.Manifests.{HasValidWorkflows}
 use Rattle.next_step.specs.Hands.{for_pod, idle_hand}
 use Rattle.next_step.specs.Replies.{no_object}
 use Rattle.next_step.specs.Plays.{make_step, stage}
-use Rattle.next_step.specs.Rounds.{JobRan, runner_missed, JobsRan, no_more, one_more, RunRan, last_round}
+use Rattle.next_step.specs.Rounds.{entries_in, JobRan, runner_missed, JobsRan, no_more, one_more, RunRan, last_round}
 use Rattle.next_laws.specs.Playing.{IsLawfulStage, IsPlayed}
 use Rattle.next_laws.specs.Ends.{Within}
 use Rattle.next_laws.proofs.Playing.{plays_lawfully}
@@ -78,4 +78,6 @@ before_lawful = record { start = refl; each = tt }
 
 nothing_runs : RunRan D before 1 0 before
 nothing_runs = last_round no_more refl
+
+nothing_ends : 1 + entries_in before ≤ entries_in before + 0 + 1
 nothing_ends = rounds_end.run D before before 1 0 valid_document before_lawful nothing_runs

@@ -29,7 +29,7 @@ has_read = record waits { views = view_read }
 abbrev pub has_written : Hand
 has_written = record waits { views = view_written }
 
-abbrev started : Entry
+abbrev pub started : Entry
 started = Write w 2 (fact.Started ∷ [])
 
 -- a hand's read while the workflow stands at version 1
@@ -46,16 +46,16 @@ meets_conflict = changes w [] (record_fact fact.Started) at_first (fact.Started 
     record { beginnings = []; parts = refl; closes = closed refl; fits = omega arith; is_new = refl }
     (lit≤ tt, refl, refl, lit≤ tt, refl)
 
-abbrev two_steps : List ScheduleStep
+abbrev pub two_steps : List ScheduleStep
 two_steps =
     give_job 0 (for_flow w) ∷ give_job 1 (for_flow w) ∷ make_step 0 ∷ make_step 1 ∷ make_step 0 ∷ make_step 1 ∷ []
 
-abbrev two_notes : List CallNote
+abbrev pub two_notes : List CallNote
 two_notes =
     note 0 (op_get (Workflow w)) (was_read 1) ∷ note 1 (op_get (Workflow w)) (was_read 1)
     ∷ note 0 (op_write (Workflow w) started) (was_accepted 2) ∷ note 1 (op_write (Workflow w) started) (was_moved 1 2) ∷ []
 
-two_hands : Played D (stage h (idle_hand ∷ idle_hand ∷ [])) two_steps two_notes (stage g (has_written ∷ idle_hand ∷ []))
+pub two_hands : Played D (stage h (idle_hand ∷ idle_hand ∷ [])) two_steps two_notes (stage g (has_written ∷ idle_hand ∷ []))
 two_hands =
     step (give_job 0 (for_flow w)) (gave 0 (for_flow w) idle_hand refl)
     (step (give_job 1 (for_flow w)) (gave 1 (for_flow w) idle_hand refl)

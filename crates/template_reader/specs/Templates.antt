@@ -84,8 +84,8 @@ inputs = default [] (object_of inputs_fields) (codes "inputs")
 
 -- ---- outputs (field reference, `Outputs` and `ValueFrom`), by the template's body
 
--- Of `path` and `parameter` the one that does not belong to the body is refused, and the other must be there. Where there
--- is no body, neither is looked at.
+-- Of `path` and `parameter` the one that does not belong to the body is refused, and the other must be there. Where
+-- there is no body, neither is looked at.
 unfoldable pub source_fields : Option BodyKind → Kind Source
 source_fields found at d = do
   _ ← refused_all

@@ -1,5 +1,5 @@
--- The grammars of what a retry says (field reference, `RetryStrategy` and `Backoff`). The form of numbers and their limits
--- are this project's own.
+-- The grammars of what a retry says (field reference, `RetryStrategy` and `Backoff`). The form of numbers and their
+-- limits are this project's own.
 use Rattle.std.specs.Prelude.{ℕ, nat_lt, nat_le, Bool, ◌&&◌, ◌||◌, if◌then◌else◌, List, length, Option, Some, None, bytes_eq, codes}
 use Rattle.std.specs.Result.{result_ok}
 use Rattle.std.specs.List.{list_all}

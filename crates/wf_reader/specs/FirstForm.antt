@@ -1,5 +1,5 @@
--- What a `Workflow` resource of the first form reads as (field reference, `Workflow`): pods and steps alone. Each object is
--- a list of lines in reading order. That such a resource says nothing else is this project's own.
+-- What a `Workflow` resource of the first form reads as (field reference, `Workflow`): pods and steps alone. Each object
+-- is a list of lines in reading order. That such a resource says nothing else is this project's own.
 use Rattle.std.specs.Prelude.{ℕ, List, [], ◌∷◌, Bool, true, false, if◌then◌else◌, Option, Some, None, Ok, codes, pos}
 use Rattle.serde_json.specs.Data.{Data}
 use Rattle.base_types.specs.Limits.{most_members}

@@ -1,5 +1,5 @@
--- The limits of what workflows say, each in one place. The range of priorities is that of the field reference, whose type is
--- a number of 32 bits; how a name is made from its prefix is this project's own.
+-- The limits of what workflows say, each in one place. The range of priorities is that of the field reference, whose
+-- type is a number of 32 bits; how a name is made from its prefix is this project's own.
 use Rattle.std.specs.Prelude.{ℕ, ℤ, pos, negsuc}
 
 -- the digits by which a name is made from its prefix

@@ -1,5 +1,5 @@
--- What a `Workflow` resource reads as (field reference, `Workflow`): each object is a list of lines in reading order, its
--- refused fields first. Which fields are refused, and by which refusal, is this project's own.
+-- What a `Workflow` resource reads as (field reference, `Workflow`): each object is a list of lines in reading order,
+-- its refused fields first. Which fields are refused, and by which refusal, is this project's own.
 use Rattle.std.specs.Prelude.{ℕ, ◌-◌, ℤ, pos, List, [], ◌∷◌, ◌++◌, length, replicate, Option, Some, None, Ok, codes, decimal}
 use Rattle.std.specs.Result.{result_ok}
 use Rattle.base_types.specs.Limits.{most_members}

@@ -110,8 +110,8 @@ impl Fields for WorkflowFields {
     }
 }
 
-/// The manifest of a workflow of the first form, as it stands at a path of the document. What `apiVersion` and `kind` must be is not
-/// asked here.
+/// The manifest of a workflow of the first form, as it stands at a path of the document. What `apiVersion` and `kind`
+/// must be is not asked here.
 pub fn read_first_form(
     alloc: Global,
     value: &Value,

@@ -139,9 +139,9 @@ impl Fields for WorkflowFields {
     }
 }
 
-/// The manifest of a workflow, as it stands at a path of the document, or the first refusal of what it says. `item` is its
-/// position in the document, by which a name is made where it has only the prefix of one. What `apiVersion` and `kind`
-/// must be is not asked here.
+/// The manifest of a workflow, as it stands at a path of the document, or the first refusal of what it says. `item` is
+/// its position in the document, by which a name is made where it has only the prefix of one. What `apiVersion` and
+/// `kind` must be is not asked here.
 pub fn read_workflow(
     alloc: Global,
     item: u32,
