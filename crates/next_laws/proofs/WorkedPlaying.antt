@@ -5,18 +5,23 @@ use Rattle.wf_manifest.specs.declared.templates.Body.TheVariants as body
 use Rattle.wf_manifest.specs.declared.templates.Template.{Template}
 use Rattle.wf_manifest.specs.Valid.{HasNoCircle, Valid}
 use Rattle.meaning.proofs.Samples.{template}
-use Rattle.law.specs.Contents.{Story, starts}
+use Rattle.tree_types.specs.declared.entry.Key.TheVariants.{Workflow}
+use Rattle.law.specs.Contents.{OfWorkflow, flow, Story, starts}
+use Rattle.law.specs.Due.{IsQuiet}
 use Rattle.law.specs.Justified.{IsLawful}
 use Rattle.lawful.specs.Manifests.{HasValidWorkflows}
 use Rattle.next_step.specs.Hands.{for_pod, idle_hand}
-use Rattle.next_step.specs.Replies.{no_object}
+use Rattle.next_step.specs.Replies.{no_object, seen}
 use Rattle.next_step.specs.Plays.{make_step, stage}
 use Rattle.next_step.specs.Rounds.{entries_in, JobRan, runner_missed, JobsRan, no_more, one_more, RunRan, last_round}
 use Rattle.next_laws.specs.Playing.{IsLawfulStage, IsPlayed}
 use Rattle.next_laws.specs.Ends.{Within}
+use Rattle.next_laws.specs.ReadsBack.{IsBack}
 use Rattle.next_laws.proofs.Playing.{plays_lawfully}
 use Rattle.next_laws.proofs.Following.{step_is_played}
 use Rattle.next_laws.proofs.RoundsEnd.{rounds_end}
+use Rattle.next_laws.proofs.RunsQuiet.{run_ends_quiet}
+use Rattle.next_laws.proofs.VersionsCounted.{reads_back}
 use Rattle.next_laws.proofs.WorkedConflict.{w, m, D, h, g}
 use Rattle.next_laws.proofs.WorkedSchedule.{has_written, two_steps, two_notes, two_hands}
 
@@ -81,3 +86,11 @@ nothing_runs = last_round no_more refl
 
 nothing_ends : 1 + entries_in before ≤ entries_in before + 0 + 1
 nothing_ends = rounds_end.run D before before 1 0 valid_document before_lawful nothing_runs
+
+nothing_quiet : IsLawful D before × IsQuiet D before
+nothing_quiet = run_ends_quiet D before before 1 0 valid_document before_lawful nothing_runs
+
+-- ---- a read of the first version, where the workflow stands at the second
+
+first_is_read : IsBack g (Workflow w) 9 (seen 1 (OfWorkflow (flow m [])) 0)
+first_is_read = reads_back.older g (Workflow w) 9 (seen 1 (OfWorkflow (flow m [])) 0) refl
