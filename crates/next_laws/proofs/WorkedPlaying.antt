@@ -1,5 +1,5 @@
 -- The premises of the laws of schedules, jobs and rounds hold together: each law, put to worked ones.
-use Rattle.std.proofs.Common.{◌≡◌, ◌≤◌, ◌+◌, true, codes, List, [], ◌∷◌, refl, subst, Some, None, inl, inr}
+use Rattle.std.proofs.Common.{◌≤◌, ◌+◌, codes, [], ◌∷◌, refl, subst, inl, inr}
 use Rattle.std.proofs.lemmas.List.Elements.{All-nil, All-cons}
 use Rattle.wf_manifest.specs.declared.templates.Body.TheVariants as body
 use Rattle.wf_manifest.specs.declared.templates.Template.{Template}
@@ -13,7 +13,7 @@ use Rattle.lawful.specs.Manifests.{HasValidWorkflows}
 use Rattle.next_step.specs.Hands.{for_pod, idle_hand}
 use Rattle.next_step.specs.Replies.{no_object, seen}
 use Rattle.next_step.specs.Plays.{make_step, stage}
-use Rattle.next_step.specs.Rounds.{entries_in, JobRan, runner_missed, JobsRan, no_more, one_more, RunRan, last_round}
+use Rattle.next_step.specs.Rounds.{entries_in, JobRan, runner_missed, no_more, one_more, RunRan, last_round}
 use Rattle.next_laws.specs.Playing.{IsLawfulStage, IsPlayed}
 use Rattle.next_laws.specs.Ends.{Within}
 use Rattle.next_laws.specs.ReadsBack.{IsBack}
