@@ -1,5 +1,5 @@
 -- One turn of the loop over commands.
-use Rattle.std.proofs.Common.{◌≡◌, ℕ, suc, ◌<◌, List, [], ◌∷◌, ◌++◌, length, get_or, drop, refl, ap, sym, append_assoc, drop-cons, ◌∙◌}
+use Rattle.std.proofs.Common.{◌≡◌, ℕ, suc, ◌<◌, List, [], ◌∷◌, ◌++◌, length, get_or, drop, ap, sym, append_assoc, drop-cons, ◌∙◌}
 use Rattle.item_reader.specs.declared.commands.Command.{Command}
 use Rattle.bundle_rules.specs.declared.asked.Asked.{Asked}
 use Rattle.bundle_rules.specs.Names.{made_by, made, command_asked, commands_asked}

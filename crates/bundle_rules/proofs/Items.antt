@@ -1,5 +1,5 @@
 -- One turn of the loop over items.
-use Rattle.std.proofs.Common.{◌≡◌, ℕ, suc, ◌<◌, List, [], ◌∷◌, ◌++◌, length, get_or, drop, ap, sym, append_assoc, drop-cons, ◌∙◌}
+use Rattle.std.proofs.Common.{◌≡◌, ℕ, suc, ◌<◌, List, ◌∷◌, ◌++◌, length, get_or, drop, ap, sym, append_assoc, drop-cons, ◌∙◌}
 use Rattle.item_reader.specs.declared.items.Item.{Item}
 use Rattle.bundle_rules.specs.declared.asked.Asked.{Asked}
 use Rattle.bundle_rules.specs.Names.{made_in, item_asked, items_asked}

@@ -1,5 +1,5 @@
 -- The first of a list beyond a number.
-use Rattle.std.proofs.Common.{◌≡◌, ℕ, zero, suc, ◌<◌, ◌≤◌, List, [], ◌∷◌, length, drop, Some, Ok, refl, ap, arith}
+use Rattle.std.proofs.Common.{◌≡◌, ℕ, zero, suc, ◌≤◌, List, [], ◌∷◌, length, drop, Some, Ok, refl, ap, arith}
 use Rattle.std.specs.Prelude.{slice_get}
 use Rattle.field_kinds.specs.Rules as rules
 use Rattle.bundle_rules.specs.declared.claims.Spot.{Spot}

@@ -2,7 +2,6 @@
 use Rattle.std.specs.Prelude.{ℕ, suc, List, [], ◌∷◌, ◌++◌, Bool, true, false, ◌&&◌, if◌then◌else◌, Ok, bytes_eq, codes}
 use Rattle.std.specs.List.{list_any}
 use Rattle.json_fields.specs.Paths.{Path, field_of, member_of}
-use Rattle.wf_manifest.specs.declared.manifest.Manifest.{Manifest}
 use Rattle.field_kinds.specs.Rules as rules
 use Rattle.item_reader.specs.declared.commands.Command.{Command}
 use Rattle.item_reader.specs.declared.commands.Command.TheVariants.{Resume, Resubmit}

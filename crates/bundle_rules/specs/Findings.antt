@@ -1,7 +1,7 @@
 -- What is found of a document, or its first refusal with the item that it is of.
 use Rattle.std.specs.Prelude.{◌≡◌, ℕ, Result, Ok, Err}
 use Rattle.json_fields.specs.Paths.{Path}
-use Rattle.field_kinds.specs.Reading.{Read, Refusal}
+use Rattle.field_kinds.specs.Reading.{Read}
 use Rattle.field_kinds.specs.declared.refused.KindRefused.{KindRefused}
 use Rattle.field_kinds.specs.declared.refused.KindRefused.TheVariants as kinds
 use Rattle.bundle_rules.specs.declared.refused.BundleRefused.{BundleRefused}

@@ -1,5 +1,5 @@
 -- Where a document names a workflow, and whether it is there.
-use Rattle.std.specs.Prelude.{ℕ, suc, List, [], ◌∷◌, ◌++◌, Bool, if◌then◌else◌, Option, Some, None, Ok, codes}
+use Rattle.std.specs.Prelude.{ℕ, suc, List, [], ◌∷◌, ◌++◌, Bool, if◌then◌else◌, Option, Some, Ok, codes}
 use Rattle.json_fields.specs.Paths.{Path, field_of}
 use Rattle.base_types.specs.Names.{is_among}
 use Rattle.field_kinds.specs.Rules as rules

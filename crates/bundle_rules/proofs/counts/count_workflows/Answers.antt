@@ -1,4 +1,4 @@
-use Rattle.std.proofs.Common.{◌≡◌, ◌++◌, [], drop, ap, ap₂, sym, arith, ◌∙◌}
+use Rattle.std.proofs.Common.{◌≡◌, ◌++◌, drop, ap, sym, arith, ◌∙◌}
 use Rattle.base_types.specs.Limits.{most_workflows}
 use Rattle.field_kinds.specs.Rules as rules
 use Rattle.bundle_rules.specs.Findings.{refuse}

@@ -1,4 +1,4 @@
-use Rattle.std.proofs.Common.{◌≡◌, ◌++◌, add-one}
+use Rattle.std.proofs.Common.{◌++◌, add-one}
 use Rattle.bundle_rules.specs.Names.{made, commands_asked}
 use Rattle.bundle_rules.proofs.Commands.{named_more, listed_more}
 use Rattle.bundle_rules.proofs.names.add_commands.Goals as goal
