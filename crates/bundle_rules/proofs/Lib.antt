@@ -1,0 +1,4 @@
+mod Commands
+mod Items
+mod NameAdded
+mod Over

@@ -1,0 +1,5 @@
+pub mod Findings
+pub mod Claims
+pub mod Counts
+pub mod Names
+pub mod Schedules
