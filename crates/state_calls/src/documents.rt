@@ -1,7 +1,7 @@
 //! Documents of the first form: workflows, and what is planned for their pods (`wf_reader`, `wf_bundle`).
 
-use crate::common::repeated;
 use base_types::{Text, TryCopy};
+use calls::repeated;
 use field_kinds::FieldPath;
 use serde_json::Value;
 use std::alloc::Global;

@@ -4,8 +4,8 @@ ghost use Rattle.std.specs.Prelude.{IsTrue, IfSome};
 ghost use Rattle.std.specs.List.{list_all};
 ghost use Rattle.fanout.specs.Items.{is_whole};
 
-use crate::common::repeated;
 use base_types::Text;
+use calls::repeated;
 use fanout::{Items, add_item_tags, item_text, items, name_text};
 use scopes::{Scope, same_values, subst};
 use serde_json::Value;

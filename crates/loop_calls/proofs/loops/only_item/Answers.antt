@@ -1,7 +1,7 @@
 use Rattle.std.proofs.Common.{IsTrue, ◌≡◌, Bool, List, [], ◌∷◌, Some, arith}
 use Rattle.std.specs.List.{list_all, slice_get}
 use Rattle.fanout.specs.Items.{is_whole}
-use Rattle.calls.proofs.loops.only_item.Goals as goal
+use Rattle.loop_calls.proofs.loops.only_item.Goals as goal
 
 -- where all pass, so does the first
 first_passes : {X : Type 0} (p : X → Bool) (xs : List X) (x : X) →
