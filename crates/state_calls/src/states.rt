@@ -1,7 +1,7 @@
 //! Phases, kinds, journals, and the copies of what is stored of workflows (`tree_types`).
 
 use crate::node_notes::{lock, notes, plain_notes, text};
-use base_types::{List, Memory, Text, TryCopy};
+use base_types::{List, Memory, TryCopy};
 use std::alloc::Global;
 use std::fmt::Debug;
 use std::test::Fail;
