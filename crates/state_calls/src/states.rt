@@ -1,13 +1,14 @@
 //! Phases, kinds, journals, and the copies of what is stored of workflows (`tree_types`).
 
-use base_types::{List, Memory, Text, TryCopy};
+use crate::node_notes::{lock, notes, plain_notes, text};
+use base_types::{List, Memory, TryCopy};
 use std::alloc::Global;
 use std::fmt::Debug;
 use std::test::Fail;
 use tree_types::{
-    Entries, Entry, Fact, Facts, HolderKey, Journal, Key, Kind, Limit, Limits, LockId, Node, Nodes,
-    Note, Outcome, Outputs, Param, Params, Path, Phase, Rank, Sel, Sels, Tree, Want, Wants,
-    fulfilled, worst,
+    Entries, Entry, Fact, Facts, HolderKey, Journal, Key, Kind, Limit, Limits, Node, Nodes, Note,
+    Outcome, Outputs, Param, Params, Path, Phase, Rank, Sel, Sels, Tree, Want, Wants, fulfilled,
+    worst,
 };
 
 #[test]
@@ -52,10 +53,6 @@ fn tells_phases_and_kinds(rt: HostRuntime) -> Result<(), Fail> {
     Ok(())
 }
 
-fn text(alloc: Global, text: &str) -> Result<Text, Memory> {
-    Text::from_text(alloc, text)
-}
-
 /// The path with one selector of each kind.
 fn path(alloc: Global) -> Result<Path, Memory> {
     Ok(Path {
@@ -71,12 +68,6 @@ fn path(alloc: Global) -> Result<Path, Memory> {
                 Sel::Attempt(5),
             ],
         )?,
-    })
-}
-
-fn lock(alloc: Global) -> Result<LockId, Memory> {
-    Ok(LockId {
-        text: text(alloc, "mutex/m")?,
     })
 }
 
@@ -126,38 +117,6 @@ fn journal(alloc: Global) -> Result<Journal, Memory> {
     journal.add(Fact::Resumed(path(alloc)?))?;
     journal.add(Fact::Begun(path(alloc)?))?;
     Ok(journal)
-}
-
-/// The notes that say nothing more.
-pub(crate) fn plain_notes(alloc: Global) -> Result<List<Note>, Memory> {
-    Ok(List::from_vec(vec![in alloc;
-        Note::None,
-        Note::WhenFalse,
-        Note::DependsFalse,
-        Note::NoItems,
-        Note::Carried,
-        Note::TooDeep,
-        Note::BadWhen,
-        Note::NotNumbers,
-        Note::NotList,
-        Note::BadItem,
-        Note::BadNumber,
-        Note::BadFormat,
-        Note::TooManyItems,
-        Note::BadDuration,
-    ]?))
-}
-
-/// The notes that say more.
-pub(crate) fn notes(alloc: Global) -> Result<List<Note>, Memory> {
-    let (cache, key) = (text(alloc, "c")?, text(alloc, "k")?);
-    Ok(List::from_vec(vec![in alloc;
-        Note::Waiting(lock(alloc)?),
-        Note::Looking(text(alloc, "c")?),
-        Note::Hit(cache, key),
-        Note::Unresolved(text(alloc, "t")?),
-        Note::NoOutput(text(alloc, "p")?),
-    ]?))
 }
 
 fn tree(alloc: Global) -> Result<Tree, Memory> {

@@ -4,8 +4,8 @@ ghost use Rattle.wf_manifest.specs.Valid.{Valid};
 ghost use Rattle.wf_manifest.specs.FirstForm.{IsFirstForm};
 
 use crate::documents::document;
-use crate::states::{notes, plain_notes};
 use base_types::{Bytes, List, Memory, Text, TryCopy};
+use state_calls::{notes, plain_notes};
 use std::alloc::Global;
 use std::test::Fail;
 use tree_eval::{JournalIndex, evaluate, tree};
