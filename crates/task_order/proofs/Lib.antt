@@ -1,7 +1,7 @@
-mod Among
+pub mod Among
 mod NameLists
 mod Graphs
-mod Ranks
+pub mod Ranks
 mod Walks
 mod Goings
 mod Orders

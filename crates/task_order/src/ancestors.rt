@@ -71,8 +71,8 @@ impl<'a> Ancestors<'a> {
         }
     }
 
-    // Whether a task of the one name is an ancestor of one of the other.
-    fn waits_for(&self, name: &str, ancestor: &str) -> bool
+    /// Whether a task of the one name has an ancestor of the other.
+    pub fn waits_for(&self, name: &str, ancestor: &str) -> bool
         ensures { IsTrue result ↔ IsAncestor self.now ancestor.now name.now }
     {
         let Some(place) = self.table.place(name) else {
