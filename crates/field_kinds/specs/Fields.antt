@@ -112,21 +112,6 @@ is_present None = false
 is_present (Some null) = false
 is_present (Some d) = true
 
-abbrev pub only_member : List (List ℕ) → Path → List ℕ → Data → Read (Unit {0})
-only_member names at key d =
-    if is_present (Some d) && not (is_among names key) then refuse_by rules.not_built (field_of at key) else Ok tt
-
-abbrev pub only_members : List (List ℕ) → Path → Members → Read (Unit {0})
-only_members names at no_members = Ok tt
-only_members names at (member key d ms) = do
-  _ ← only_member names at key d
-  only_members names at ms
-
--- The first member of an object that is there and has none of these names is refused, in the order of the keys.
-abbrev pub only : List (List ℕ) → Kind (Unit {0})
-only names at (object ms) = only_members names at ms
-only names at _ = Ok tt
-
 -- ---- fields beside others
 
 -- the field is there

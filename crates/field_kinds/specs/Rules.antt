@@ -79,9 +79,3 @@ no_workflow = 22
 -- a step of the schedule is of none of its forms, or of no hand
 abbrev pub bad_schedule : ℕ
 bad_schedule = 23
-
--- ---- what is not built
-
--- Argo or this project has it, and this program does not read it yet
-abbrev pub not_built : ℕ
-not_built = 24

@@ -25,7 +25,7 @@ pub use numbers::{flag_or, number_or, optional_number, optional_whole, required_
 pub use readable::{Fields, Grammar, Keyed, Readable};
 pub use refused::{KindRefused, refused_at, refused_field};
 pub use refusing::{
-    has, missing_unless, no_second, only, refuse_all, refuse_but, refuse_if, refuse_unless_false,
+    has, missing_unless, no_second, refuse_all, refuse_but, refuse_if, refuse_unless_false,
     unsupported_if,
 };
 pub use texts::{

@@ -2,14 +2,13 @@
 
 ghost use Rattle.std.specs.Prelude.{◌≡◌, bytes_eq, map, option_map};
 ghost use Rattle.serde_json.specs.View.{view, members_view};
-ghost use Rattle.base_types.specs.Names.{is_among};
 ghost use Rattle.json_fields.specs.Paths.{field_of};
 ghost use Rattle.field_kinds.specs.Refusing.{Reads};
 ghost use Rattle.field_kinds.specs.Fields as fields;
 
 use crate::KindRefused;
 use crate::refused::{refused_at, refused_field};
-use crate::rules::{MISSING, NOT_BUILT, UNSUPPORTED};
+use crate::rules::{MISSING, UNSUPPORTED};
 use json_fields::{FieldPath, refuse, says_nothing};
 use serde_json::{Map, Value};
 
@@ -78,54 +77,6 @@ fn refuse_member(key: &str, value: &Value, but: &str, at: &FieldPath) -> Result<
     } else {
         Err(refused_field(UNSUPPORTED, key, at)?)
     }
-}
-
-/// Refuses the first member of an object that is there and has none of these names, in the order of the keys.
-pub fn only(object: &Value, names: &[&str], at: &FieldPath) -> Result<(), KindRefused>
-    ensures { Reads result
-        (fields.only (map (λ name. name.now) names.now) at.now (view object.now)) }
-{
-    match object {
-        Value::Object(map) => only_members(map, names, at),
-        _ => Ok(()),
-    }
-}
-
-fn only_members(
-    members: &Map<String, Value>,
-    names: &[&str],
-    at: &FieldPath,
-) -> Result<(), KindRefused>
-    ensures { Reads result
-        (fields.only_members (map (λ name. name.now) names.now) at.now
-        (members_view members.now.entries)) }
-{
-    for (key, value) in members.iter() {
-        only_member(key.as_str(), value, names, at)?;
-    }
-    Ok(())
-}
-
-fn only_member(key: &str, value: &Value, names: &[&str], at: &FieldPath) -> Result<(), KindRefused>
-    ensures { Reads result
-        (fields.only_member (map (λ name. name.now) names.now) at.now key.now (view value.now)) }
-{
-    if is_present(Some(value)) && !is_among(names, key) {
-        Err(refused_field(NOT_BUILT, key, at)?)
-    } else {
-        Ok(())
-    }
-}
-
-fn is_among(names: &[&str], name: &str) -> bool
-    ensures { result ≡ is_among (map (λ known. known.now) names.now) name.now }
-{
-    for i in 0..names.len() {
-        if name == names[i] {
-            return true;
-        }
-    }
-    false
 }
 
 fn is_present(found: Option<&Value>) -> bool

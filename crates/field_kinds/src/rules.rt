@@ -53,6 +53,3 @@ pub const NO_WORKFLOW: u32 = 22;
 
 /// A step of the schedule is of none of its forms, or of no hand.
 pub const BAD_SCHEDULE: u32 = 23;
-
-/// Argo or this project has it, and this program does not read it yet.
-pub const NOT_BUILT: u32 = 24;

@@ -48,9 +48,9 @@ key_fields at d = do
   key ← required (of config_key text) (codes "key") at d
   Ok (record { name = name; key = key })
 
--- The lock is written `semaphore/MAP/KEY`.
-abbrev pub semaphore_lock : ConfigKey → LockId
-semaphore_lock key = record { text = (codes "semaphore/" ++ key.name) ++ codes "/" ++ key.key }
+-- The lock of a key in the ConfigMap of this name is written `semaphore/MAP/KEY`.
+abbrev pub semaphore_lock : List ℕ → List ℕ → LockId
+semaphore_lock name key = record { text = (codes "semaphore/" ++ name) ++ codes "/" ++ key }
 
 unfoldable pub semaphore_fields : List ℕ → Kind LockId
 semaphore_fields own at d = do
@@ -58,7 +58,7 @@ semaphore_fields own at d = do
   _ ← no_foreign_namespace own at d
   key ← required (object_of key_fields) (codes "configMapKeyRef") at d
   _ ← optional text (codes "namespace") at d
-  Ok (semaphore_lock key)
+  Ok (semaphore_lock key.name key.key)
 
 abbrev pub or_lock : Option LockId → Option LockId → Option LockId
 or_lock (Some mutex) _ = Some mutex

@@ -1,11 +1,11 @@
--- The grammars of what a retry says (field reference, `RetryStrategy` and `Backoff`). The form of numbers and their
+-- The grammars of what a retry and a ConfigMap say (field reference, `RetryStrategy` and `Backoff`). The form of numbers and their
 -- limits are this project's own.
 use Rattle.std.specs.Prelude.{ℕ, nat_lt, nat_le, Bool, ◌&&◌, ◌||◌, if◌then◌else◌, List, length, Option, Some, None, bytes_eq, codes}
 use Rattle.std.specs.Result.{result_ok}
 use Rattle.std.specs.List.{list_all}
 use Rattle.std.specs.Char.{is_ascii_digit}
 use Rattle.std.specs.Str.Parse.{digits_value}
-use Rattle.base_types.specs.Limits.{most_retries, most_factor}
+use Rattle.base_types.specs.Limits.{most_retries, most_factor, most_holders}
 use Rattle.time_text.specs.Durations.{duration_of}
 use Rattle.wf_manifest.specs.declared.templates.Policy.{Policy}
 use Rattle.wf_manifest.specs.declared.templates.Policy.TheVariants as policy
@@ -24,6 +24,10 @@ number_within low high t = if is_short_number t then within low high (digits_val
 
 abbrev pub retry_limit : List ℕ → Option ℕ
 retry_limit = number_within 0 most_retries
+
+-- the holders that a ConfigMap allows a semaphore (field reference, `SemaphoreRef`)
+abbrev pub lock_limit : List ℕ → Option ℕ
+lock_limit = number_within 0 most_holders
 
 abbrev pub backoff_factor : List ℕ → Option ℕ
 backoff_factor = number_within least_factor most_factor

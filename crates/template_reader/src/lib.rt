@@ -11,7 +11,7 @@ mod outputs;
 mod retries;
 mod templates;
 
-pub use locks::read_lock;
+pub use locks::{read_lock, semaphore_lock};
 pub use names::{ConfigKeyText, MutexName, ResourceName};
-pub use retries::{FactorText, LimitText, PolicyName, Seconds};
+pub use retries::{FactorText, HoldersText, LimitText, PolicyName, Seconds};
 pub use templates::TemplateFields;

@@ -103,13 +103,14 @@ impl Fields for ConfigKey {
     }
 }
 
-fn semaphore_lock(alloc: Global, key: &ConfigKey) -> Result<LockId, Memory>
-    ensures { IfOk result (λ lock. lock ≡ reads.semaphore_lock key.now) }
+/// The semaphore of a key in the ConfigMap of this name.
+pub fn semaphore_lock(alloc: Global, name: &Text, key: &Text) -> Result<LockId, Memory>
+    ensures { IfOk result (λ lock. lock ≡ reads.semaphore_lock name.now key.now) }
 {
     let mut text = Text::from_text(alloc, "semaphore/")?;
-    text.push(key.name.as_str())?;
+    text.push(name.as_str())?;
     text.push("/")?;
-    text.push(key.key.as_str())?;
+    text.push(key.as_str())?;
     Ok(LockId { text })
 }
 
@@ -134,7 +135,7 @@ impl Fields for SemaphoreFields {
         no_foreign_namespace(own, semaphore, at)?;
         let key = required::<Object<ConfigKey>>(alloc, semaphore, "configMapKeyRef", at, &())?;
         optional_text(alloc, semaphore, "namespace", at)?;
-        Ok(semaphore_lock(alloc, &key)?)
+        Ok(semaphore_lock(alloc, &key.name, &key.key)?)
     }
 }
 

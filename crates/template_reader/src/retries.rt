@@ -9,7 +9,7 @@ ghost use Rattle.template_reader.specs.Texts as texts;
 use crate::bodies::{BodyKind, is_no_pod};
 use crate::limits::{LEAST_FACTOR, MOST_DIGITS};
 use base_types::Memory;
-use base_types::limits::{MOST_FACTOR, MOST_RETRIES};
+use base_types::limits::{MOST_FACTOR, MOST_HOLDERS, MOST_RETRIES};
 use field_kinds::{
     FieldPath, Fields, Grammar, KindRefused, Object, optional, optional_by, refuse_all,
     unsupported_if,
@@ -66,6 +66,20 @@ impl Grammar for LimitText {
 
     fn read(_alloc: Global, text: &str) -> Result<Option<u64>, Memory> {
         Ok(number_within(0, MOST_RETRIES, text))
+    }
+}
+
+/// The grammar of a semaphore's limit: 1 to 4 digits, at most 1000.
+#[derive(Drop)]
+pub struct HoldersText;
+
+impl Grammar for HoldersText {
+    type Meaning = u64;
+
+    ghost meaning = { texts.lock_limit };
+
+    fn read(_alloc: Global, text: &str) -> Result<Option<u64>, Memory> {
+        Ok(number_within(0, MOST_HOLDERS, text))
     }
 }
 

@@ -1,4 +1,4 @@
--- What a workflow that is read keeps of `Valid`: its lists are within their limits.
+-- What a workflow that is read keeps of `Valid`: its lists and retries are within their limits.
 use Rattle.std.proofs.Common.{ℕ, List, [], ◌∷◌, pos, refl, subst, ◌∙◌}
 use Rattle.std.specs.Prelude.{IsTrue, codes}
 use Rattle.std.specs.List.{AllByRecursion, list_all, flat_map}
@@ -7,7 +7,7 @@ use Rattle.std.proofs.lemmas.List.Folds.{list_all-append}
 use Rattle.base_types.specs.Limits.{most_members}
 use Rattle.wf_manifest.specs.declared.calls.Argument.{Argument}
 use Rattle.wf_manifest.specs.declared.templates.Template.{Template}
-use Rattle.wf_manifest.specs.Valid.{argument_names, template_lists, is_short, body_is_short}
+use Rattle.wf_manifest.specs.Valid.{argument_names, template_lists, is_short, body_is_short, retry_fits}
 use Rattle.field_kinds.specs.Kinds.{text, whole_in, object_of, list_of}
 use Rattle.field_kinds.specs.Fields.{required, default, written_text}
 use Rattle.field_kinds.proofs.Makes.{Makes, then_ok, ok_is, makes_object, makes_required}
@@ -30,13 +30,17 @@ TemplatesKept ts = ShortOf TemplateKept ts
 
 bodies_short : (ts : List Template) → AllByRecursion TemplateKept ts → IsTrue (list_all (λ t. body_is_short t.body) ts)
 bodies_short [] kept = refl
-bodies_short (t ∷ ts) kept = and_from (body_is_short t.body) (list_all (λ (t : Template). body_is_short t.body) ts) kept.0.0 (bodies_short ts kept.1)
+bodies_short (t ∷ ts) kept = and_from (body_is_short t.body) (list_all (λ (t : Template). body_is_short t.body) ts) kept.0.body (bodies_short ts kept.1)
 
 parameters_short : (ts : List Template) → AllByRecursion TemplateKept ts → IsTrue (list_all is_short (flat_map template_lists ts))
 parameters_short [] kept = refl
 parameters_short (t ∷ ts) kept =
     let rest = flat_map template_lists ts in
-    list_all-append is_short (template_lists t) rest ∙ and_from (list_all is_short (template_lists t)) (list_all is_short rest) kept.0.1 (parameters_short ts kept.1)
+    list_all-append is_short (template_lists t) rest ∙ and_from (list_all is_short (template_lists t)) (list_all is_short rest) kept.0.lists (parameters_short ts kept.1)
+
+retries_are_few : (ts : List Template) → AllByRecursion TemplateKept ts → IsTrue (list_all (λ t. retry_fits t.retry) ts)
+retries_are_few [] kept = refl
+retries_are_few (t ∷ ts) kept = and_from (retry_fits t.retry) (list_all (λ (t : Template). retry_fits t.retry) ts) kept.0.retries (retries_are_few ts kept.1)
 
 -- ---- the workflow's spec
 
@@ -77,6 +81,7 @@ manifest_kept metadata s kept = record {
   lists = and_from (is_short s.templates) (list_all (λ (t : Template). body_is_short t.body) s.templates) kept.templates.0 (bodies_short s.templates kept.templates.1);
   parameters = and_from (is_short (argument_names s.head.arguments)) (list_all is_short (flat_map template_lists s.templates))
       (short_names (λ (a : Argument). a.name) s.head.arguments kept.arguments) (parameters_short s.templates kept.templates.1);
+  retries = retries_are_few s.templates kept.templates.1;
 }
 
 workflow_kept : (item : ℕ) → Makes (workflow_fields item) IsShort

@@ -1,4 +1,3 @@
-pub mod FirstForm
 pub mod Limits
 pub mod Workflows
 pub mod Short

@@ -2,7 +2,7 @@
 
 ghost use Rattle.wf_reader.specs.Short.{ReadsShort};
 
-/// The templates, groups, steps, tasks and parameters of a manifest that is read are within their limits.
+/// The templates, groups, steps, tasks, parameters and retries of a manifest that is read are within their limits.
 pub fn reads_short()
     ensures { ReadsShort }
 {}
