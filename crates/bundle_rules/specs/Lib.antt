@@ -3,3 +3,4 @@ pub mod Claims
 pub mod Counts
 pub mod Names
 pub mod Schedules
+pub mod LockLimits

@@ -1,9 +1,11 @@
-//! The rules on a document as a whole: how many workflows it has, what it says twice, and what it names that is not there.
+//! The rules on a document as a whole: how many workflows it has, what it says twice, and what it names that is not there;
+//! and the limits that it gives to locks.
 #![tactic(auto)]
 
 mod asked;
 mod claims;
 mod counts;
+mod limits;
 mod name_set;
 mod names;
 mod refused;
@@ -11,7 +13,8 @@ mod schedules;
 mod seconds;
 
 pub use counts::count_workflows;
+pub use limits::limits_of;
 pub use names::ask_names;
-pub use refused::BundleRefused;
+pub use refused::{BundleRefused, of_item};
 pub use schedules::ask_schedules;
 pub use seconds::ask_seconds;

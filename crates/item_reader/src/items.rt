@@ -34,8 +34,8 @@ pub enum ItemKind {
     Schedule,
 }
 
-// Whether a field is this text.
-fn says(item: &Value, name: &str, text: &str) -> bool
+/// Whether a field of a value is this text.
+pub fn says(item: &Value, name: &str, text: &str) -> bool
     ensures { result ≡ reads.says name.now text.now (view item.now) }
 {
     match item.get(name) {

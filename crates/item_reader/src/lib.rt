@@ -12,7 +12,7 @@ mod steps;
 
 pub use commands::{Command, Commands};
 pub use configs::{Config, Configs};
-pub use items::{Item, read_item};
+pub use items::{Item, read_item, says};
 pub use outcome::PlannedOutcome;
 pub use outcomes::{Plan, PlannedPod, PlannedPods};
 pub use schedules::{Schedule, ScheduleStep};
