@@ -1,4 +1,4 @@
 -- What speaks only of this crate's private code.
-pub mod Among
+pub mod Parts
 pub mod Pods
 pub mod Same

@@ -1,7 +1,5 @@
-pub mod Checks
-pub mod Forms
+pub mod Documents
 pub mod Outcomes
-pub mod PodOutcomes
 pub mod Inside
 pub use Rattle.wf_manifest.specs.Valid
-pub use Rattle.wf_manifest.specs.FirstForm
+pub use Rattle.bundle_rules.specs.Findings

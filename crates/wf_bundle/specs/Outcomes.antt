@@ -1,10 +1,10 @@
 -- What is planned for the pods of a document. The resource `PodOutcomes`, which says it, is this project's own.
-use Rattle.std.specs.Prelude.{ℕ, List, Bool, ◌&&◌, Option, Some, None, option_map, bytes_eq}
-use Rattle.std.specs.List.{find}
+use Rattle.std.specs.Prelude.{ℕ, List, [], ◌∷◌, ◌++◌, Bool, true, not, ◌&&◌, Option, Some, None, option_map, bytes_eq}
+use Rattle.std.specs.List.{find, list_any}
 use Rattle.tree_types.specs.declared.outcome.Outcome.{Outcome}
-use Rattle.wf_bundle.specs.declared.outcome.PlannedOutcome.{PlannedOutcome}
-use Rattle.wf_bundle.specs.declared.outcome.PlannedPod.{PlannedPod}
-use Rattle.wf_bundle.specs.declared.outcome.Plan.{Plan}
+use Rattle.item_reader.specs.declared.outcome.PlannedOutcome.{PlannedOutcome}
+use Rattle.item_reader.specs.declared.outcomes.PlannedPod.{PlannedPod}
+use Rattle.item_reader.specs.declared.outcomes.Plan.{Plan}
 
 abbrev pub is_for : List ℕ → List ℕ → PlannedPod → Bool
 is_for workflow node pod = bytes_eq workflow pod.workflow && bytes_eq node pod.node
@@ -36,3 +36,16 @@ outcome_of o = record {
 -- what is planned for the nodes of a workflow, by their names
 abbrev pub planned : Plan → List ℕ → List ℕ → Option Outcome
 planned plan workflow node = option_map outcome_of (planned_for plan workflow node)
+
+-- ---- pods
+
+abbrev pub is_same_pod : PlannedPod → PlannedPod → Bool
+is_same_pod p q = bytes_eq p.workflow q.workflow && bytes_eq p.node q.node
+
+abbrev pub pods_differ_from : List PlannedPod → List PlannedPod → Bool
+pods_differ_from before [] = true
+pods_differ_from before (p ∷ ps) = not (list_any (is_same_pod p) before) && pods_differ_from (before ++ p ∷ []) ps
+
+-- no two are for one workflow and node
+abbrev pub pods_differ : List PlannedPod → Bool
+pods_differ ps = pods_differ_from [] ps

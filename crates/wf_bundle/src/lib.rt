@@ -1,15 +1,12 @@
-//! Documents of the first form: one workflow of steps and pods, and what is planned for its pods.
+//! Documents: what a JSON value says, or its first refusal with the item, the rule and the field.
 #![tactic(auto)]
 
-mod asked;
-mod checks;
-mod ends;
-mod form;
-mod names;
-mod outcome;
+mod checking;
+mod document;
+mod items;
 mod outcomes;
-mod reading;
+mod parts;
 
-pub use form::{Form, read_form};
-pub use outcome::{Plan, PlannedOutcome, PlannedPod, PlannedPods};
+pub use bundle_rules::BundleRefused;
+pub use document::{Document, Schedule, ScheduleSteps, Valids, read_bundle};
 pub use outcomes::Outcomes;

@@ -5,12 +5,11 @@ ghost use Rattle.std.proofs.Common.{rules};
 ghost use Rattle.std.specs.Hash as fed;
 ghost use Rattle.std.specs.List.{list_any};
 ghost use Rattle.std.specs.Cmp.Rules.{comparing, hashing};
-ghost use Rattle.wf_bundle.specs.Outcomes.{planned_for};
+ghost use Rattle.wf_bundle.specs.Outcomes.{planned_for, is_same_pod, pods_differ};
 ghost use Rattle.wf_bundle.specs.Inside.Pods.{pods_of};
-ghost use Rattle.wf_bundle.specs.Checks.{is_same_pod, pods_differ};
 
-use crate::{Plan, PlannedOutcome, PlannedPod};
 use base_types::{Memory, Text};
+use item_reader::{Plan, PlannedOutcome, PlannedPod};
 use indexmap::{Equivalent, IndexMap};
 use std::alloc::Global;
 use std::hash::{Hash, Hasher};
@@ -103,7 +102,7 @@ pub struct Outcomes {
 }
 
 impl Model for Outcomes {
-    ghost use Rattle.wf_bundle.specs.declared.outcome.Plan.{Plan};
+    ghost use Rattle.item_reader.specs.declared.outcomes.Plan.{Plan};
 
     ghost Value = { Plan };
 

@@ -1,7 +1,7 @@
 -- How the pods of a plan are kept: their outcomes by the names of their workflows and nodes, in order.
 use Rattle.std.specs.Prelude.{ℕ, List, Bool, ◌&&◌, map, bytes_eq}
-use Rattle.wf_bundle.specs.declared.outcome.PlannedOutcome.{PlannedOutcome}
-use Rattle.wf_bundle.specs.declared.outcome.PlannedPod.{PlannedPod}
+use Rattle.item_reader.specs.declared.outcome.PlannedOutcome.{PlannedOutcome}
+use Rattle.item_reader.specs.declared.outcomes.PlannedPod.{PlannedPod}
 use Rattle.wf_bundle.specs.declared.outcomes.PodName.{PodName}
 
 abbrev pub is_pod_named : List ℕ → List ℕ → PodName → Bool

@@ -3,7 +3,7 @@ use Rattle.std.specs.Map.{lookup}
 use Rattle.indexmap.proofs.CallerLemmas.{insert_entry-new}
 use Rattle.wf_bundle.specs.declared.outcomes.PodName.{PodName}
 use Rattle.wf_bundle.specs.Inside.Pods.{is_pod_named, pods_of}
-use Rattle.wf_bundle.proofs.Steps.{is_kept, no_value, pod_added}
+use Rattle.wf_bundle.proofs.Kept.{is_kept, no_value, pod_added}
 use Rattle.wf_bundle.proofs.outcomes.add.Goals as goal
 
 pub returns-then-contains_key-clause-told : goal.returns-then-contains_key-clause-told

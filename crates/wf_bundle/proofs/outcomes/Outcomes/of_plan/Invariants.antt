@@ -1,7 +1,7 @@
 -- What is added and what is left are the pods, and what is left decides beside what is added.
 use Rattle.std.proofs.Common.{◌≡◌, ◌++◌, []}
 use Rattle.std.specs.Vec.Iter.{into_iter_items}
-use Rattle.wf_bundle.specs.Checks.{pods_differ_from}
+use Rattle.wf_bundle.specs.Outcomes.{pods_differ_from}
 use Rattle.wf_bundle.specs.Inside.Pods.{pods_of}
 use Rattle.wf_bundle.proofs.outcomes.Outcomes.of_plan.Given as goal
 

@@ -1,6 +1,6 @@
 use Rattle.std.proofs.Common.{◌∙◌, ap, sym}
 use Rattle.wf_bundle.specs.Outcomes.{or_default, planned_for}
-use Rattle.wf_bundle.proofs.Steps.{named_kept}
+use Rattle.wf_bundle.proofs.Kept.{named_kept}
 use Rattle.wf_bundle.proofs.outcomes.Outcomes.outcome.Goals as goal
 
 pub returns-in-Some : goal.returns-in-Some

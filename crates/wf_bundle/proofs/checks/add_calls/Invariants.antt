@@ -1,6 +1,0 @@
--- What is added and what is left are the old calls and the group.
-use Rattle.std.proofs.Common.{◌≡◌, ◌++◌, drop, map}
-use Rattle.wf_bundle.proofs.checks.add_calls.Given as goal
-
-abbrev pub invariant-loop-i : goal.invariant-loop-i
-invariant-loop-i l = map (λ call. call.now) l.calls.items ++ drop l.i l.group ≡ map (λ call. call.now) l.initial.calls.items ++ l.group
