@@ -1,4 +1,5 @@
 pub mod Statuses
+pub mod Forms
 pub mod Answers
 pub mod Runs
 pub mod Inside
@@ -7,5 +8,6 @@ pub use Rattle.io_edge.specs.Cause
 pub use Rattle.io_edge.specs.Transfer
 pub use Rattle.tree_types.specs.Texts
 pub use Rattle.meaning.specs.Plain
-pub use Rattle.wf_bundle.specs.Forms
+pub use Rattle.command_words.specs.Orders
+pub use Rattle.wf_bundle.specs.Documents
 pub use Rattle.wf_bundle.specs.Outcomes

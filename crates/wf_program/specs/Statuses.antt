@@ -1,7 +1,7 @@
 -- The exit status of each end of a run, and its text. All of it is this project's own.
 use Rattle.std.specs.Prelude.{ℕ, List, [], ◌++◌, codes, decimal}
 use Rattle.wf_program.specs.declared.status.Status.{Status}
-use Rattle.wf_program.specs.declared.status.Status.TheVariants.{Done, Usage, ReadFault, WriteFault, NotJson, TooLarge, Memory, TooLong, NotBuilt}
+use Rattle.wf_program.specs.declared.status.Status.TheVariants.{Done, Usage, ReadFault, WriteFault, NotJson, Refused, TooLarge, Memory, TooLong, NotBuilt}
 
 abbrev pub code_of : Status → ℕ
 code_of Done = 0
@@ -9,12 +9,14 @@ code_of Usage = 2
 code_of ReadFault = 3
 code_of WriteFault = 4
 code_of NotJson = 5
+code_of Refused = 6
 code_of TooLarge = 8
 code_of Memory = 9
 code_of TooLong = 10
 code_of NotBuilt = 20
 
--- The texts that are the same in every run. Done, NotJson and TooLarge have a text of their run, and WriteFault has none.
+-- The texts that are the same in every run. Done, NotJson, Refused and TooLarge have a text of their run, and WriteFault
+-- has none.
 abbrev pub fixed_text : Status → List ℕ
 fixed_text Usage = codes "argo: usage: argo run/simulate/check/generate [options]\n"
 fixed_text ReadFault = codes "argo: read fault\n"

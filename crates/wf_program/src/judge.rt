@@ -6,8 +6,10 @@ ghost use Rattle.wf_program.specs.Runs.{IsJsonOf, IsNoJson};
 ghost use Rattle.wf_program.specs.Statuses.{not_json_text};
 ghost use Rattle.wf_program.specs.Inside.Ends.{Judged, status_in, text_in};
 
-use crate::{Answered, Mode, Status};
+use crate::answers::answer_to;
+use crate::{Answered, Status};
 use base_types::{Bytes, Memory};
+use command_words::Order;
 use serde_json::Value;
 use std::alloc::Global;
 
@@ -19,8 +21,8 @@ pub(crate) struct Made {
 }
 
 /// The end of a run that has read all of its input. An end whose text takes no memory is its status alone.
-pub(crate) fn judge<M: Mode>(alloc: Global, mode: &M, input: &[u8]) -> Result<Made, Status>
-    ensures { Judged (M.means mode.now) input.now (status_in result) (text_in result) }
+pub(crate) fn judge(alloc: Global, order: Order, input: &[u8]) -> Result<Made, Status>
+    ensures { Judged order input.now (status_in result) (text_in result) }
 {
     let Some(value) = read_json(alloc, input)? else {
         let text = not_json_text(alloc, input.len())?;
@@ -29,9 +31,13 @@ pub(crate) fn judge<M: Mode>(alloc: Global, mode: &M, input: &[u8]) -> Result<Ma
             text,
         });
     };
-    match mode.answer(alloc, &value)? {
+    match answer_to(alloc, order, &value)? {
         Answered::Done(text) => Ok(Made {
             status: Status::Done,
+            text,
+        }),
+        Answered::Refused(text) => Ok(Made {
+            status: Status::Refused,
             text,
         }),
         Answered::TooLarge(text) => Ok(Made {

@@ -7,9 +7,10 @@ ghost use Rattle.tree_eval.specs.Ends.{end_of};
 ghost use Rattle.wf_bundle.specs.Outcomes.{outcome_of, planned};
 
 use base_types::Text;
+use item_reader::PlannedOutcome;
 use meaning::Place;
 use tree_eval::{Ended, Recorded};
-use wf_bundle::{Outcomes, PlannedOutcome};
+use wf_bundle::Outcomes;
 
 /// A started workflow, whose pods end as it is planned for their names.
 #[derive(Clone, Copy)]

@@ -19,12 +19,14 @@ pub enum Status {
     WriteFault,
     /// The input is no JSON value.
     NotJson,
-    /// The tree has more than 10,000 nodes.
+    /// The document breaks a rule.
+    Refused,
+    /// A tree has more than 10,000 nodes.
     TooLarge,
     Memory,
     /// The input has more than 16,777,216 bytes.
     TooLong,
-    /// The input has a form that is not built yet.
+    /// What is asked for is not built yet.
     NotBuilt,
 }
 
@@ -39,6 +41,7 @@ impl Status {
             Status::ReadFault => 3,
             Status::WriteFault => 4,
             Status::NotJson => 5,
+            Status::Refused => 6,
             Status::TooLarge => 8,
             Status::Memory => 9,
             Status::TooLong => 10,
@@ -51,7 +54,11 @@ impl Status {
         ensures { result.now ≡ fixed_text self }
     {
         match self {
-            Status::Done | Status::WriteFault | Status::NotJson | Status::TooLarge => b"",
+            Status::Done
+            | Status::WriteFault
+            | Status::NotJson
+            | Status::Refused
+            | Status::TooLarge => b"",
             Status::Usage => b"argo: usage: argo run/simulate/check/generate [options]\n",
             Status::ReadFault => b"argo: read fault\n",
             Status::Memory => b"argo: out of memory\n",
