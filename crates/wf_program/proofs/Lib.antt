@@ -1,2 +1,3 @@
-pub mod Within
-pub mod Ended
+mod Within
+mod Ended
+mod Forms
