@@ -1,19 +1,21 @@
 //! Trees of recorded workflows, and their text (`tree_eval`, `tree_print`).
 
+ghost use Rattle.std.specs.Prelude.{All};
 ghost use Rattle.wf_manifest.specs.Valid.{Valid};
 ghost use Rattle.wf_manifest.specs.FirstForm.{IsFirstForm};
 
-use crate::documents::document;
 use base_types::{Bytes, List, Memory, Text, TryCopy};
 use state_calls::{notes, plain_notes};
 use std::alloc::Global;
 use std::test::Fail;
-use tree_eval::{JournalIndex, evaluate, tree};
+use tree_eval::{JournalIndex, evaluate, is_first_form, tree};
 use tree_print::print_tree;
 use tree_types::{
     Fact, Journal, Kind, Node, Nodes, Note, Outcome, Outputs, Params, Path, Phase, Sel, Sels, Tree,
 };
-use wf_bundle::{Form, read_form};
+use serde_json::Value;
+use wf_bundle::{Document, read_bundle};
+use wf_manifest::Manifest;
 
 /// An end of a pod; any phase but Failed and Error is taken as Succeeded.
 fn outcome(alloc: Global, phase: Phase) -> Outcome {
@@ -67,12 +69,11 @@ fn journal(alloc: Global, known: Known) -> Result<Journal, Memory> {
     Ok(journal)
 }
 
-/// The text of a document's tree.
-fn printed(alloc: Global, form: &Form, journal: &Journal) -> Result<Bytes, Fail>
-    requires valid { Valid form.now.manifest }
-    requires first { IsFirstForm form.now.manifest }
+/// The text of a workflow's tree.
+fn printed(alloc: Global, manifest: &Manifest, journal: &Journal) -> Result<Bytes, Fail>
+    requires valid { Valid manifest.now }
+    requires first { IsFirstForm manifest.now }
 {
-    let manifest = &form.manifest;
     let recorded = JournalIndex::new(journal)?;
     let alone = tree(manifest, &recorded)?;
     let evaluated = evaluate(manifest, &recorded)?;
@@ -81,6 +82,29 @@ fn printed(alloc: Global, form: &Form, journal: &Journal) -> Result<Bytes, Fail>
     }
     Ok(print_tree(alloc, &manifest.name, evaluated.phase, &evaluated.tree)?)
 }
+
+/// The same of the one workflow of a document.
+fn printed_first(alloc: Global, document: &Document, journal: &Journal) -> Result<Bytes, Fail>
+    requires valid { All Valid document.now.workflows }
+{
+    match document.workflows.as_slice() {
+        [valid] => {
+            let manifest = valid.manifest();
+            if is_first_form(manifest) {
+                printed(alloc, manifest, journal)
+            } else {
+                Err(Fail::new("another form"))
+            }
+        }
+        _ => Err(Fail::new("another number of workflows")),
+    }
+}
+
+const WORKFLOW: &str = r#"{"kind":"Workflow","apiVersion":"argoproj.io/v1alpha1","metadata":{"name":"w"},
+"spec":{"entrypoint":"m","templates":[{"name":"m","steps":[
+    [{"name":"a","template":"c"},{"name":"b","template":"c"}],
+    [{"name":"d","template":"c"}]
+]},{"name":"c","container":{}}]}}"#;
 
 const NOT_BEGUN: &str = "workflow w Pending
   Pending Steps w
@@ -126,11 +150,8 @@ const WORST: &str = "workflow w Error
 #[test]
 fn evaluates_and_prints(rt: HostRuntime) -> Result<(), Fail> {
     let alloc = rt.alloc();
-    let templates = r#"{"name":"m","steps":[
-        [{"name":"a","template":"c"},{"name":"b","template":"c"}],
-        [{"name":"d","template":"c"}]
-    ]},{"name":"c","container":{}}"#;
-    let value = document(alloc, templates, r#","default":{"phase":"Succeeded"}"#)?;
+    let value = Value::from_str(alloc, WORKFLOW)?;
+    let document = read_bundle(alloc, &value)?;
     for (known, text) in [
         (Known::Nothing, NOT_BEGUN),
         (Known::Begun, BEGUN),
@@ -139,13 +160,8 @@ fn evaluates_and_prints(rt: HostRuntime) -> Result<(), Fail> {
         (Known::Both(Phase::Failed, Phase::Succeeded), FAILED),
         (Known::Both(Phase::Failed, Phase::Error), WORST),
     ] {
-        match read_form(alloc, &value)? {
-            None => assert!(rt; false),
-            Some(form) => {
-                let found = printed(alloc, &form, &journal(alloc, known)?)?;
-                assert!(rt; found.as_slice() == text.as_bytes());
-            }
-        }
+        let found = printed_first(alloc, &document, &journal(alloc, known)?)?;
+        assert!(rt; found.as_slice() == text.as_bytes());
     }
     Ok(())
 }

@@ -11,3 +11,4 @@ pub mod Ends
 pub mod Begun
 pub mod Kept
 pub mod Lent
+pub mod FirstForm

@@ -3,6 +3,7 @@
 
 mod bounded;
 mod ended;
+mod forms;
 mod journal;
 mod nodes;
 mod recorded;
@@ -13,6 +14,7 @@ mod walk;
 mod whole;
 
 pub use ended::Ended;
+pub use forms::is_first_form;
 pub use journal::JournalIndex;
 pub use recorded::Recorded;
 pub use refused::TreeRefused;

@@ -1,3 +1,3 @@
 mod Within
 mod Ended
-mod Forms
+mod Plain

@@ -2,7 +2,7 @@
 use Rattle.std.proofs.Common.{◌≡◌, ◌≤◌, drop, length}
 use Rattle.serde_json.specs.View.{items_view}
 use Rattle.wf_bundle.specs.Documents.{items_from}
-use Rattle.wf_bundle.proofs.Items.{with_front}
+use Rattle.wf_bundle.proofs.Fronts.{with_front}
 use Rattle.wf_bundle.proofs.items.items_of_values.Given as goal
 
 abbrev pub invariant-loop-i : goal.invariant-loop-i
