@@ -38,7 +38,10 @@ fn with_template_locks(names: NameSet, templates: &[Template]) -> Result<NameSet
 fn with_locks_of(names: NameSet, manifest: &Manifest) -> Result<NameSet, Memory>
     ensures { IfOk result (λ after. after ≡ names ++ spec.locks_of manifest.now) }
 {
-    with_template_locks(with_lock(names, &manifest.lock)?, manifest.templates.as_slice())
+    with_template_locks(
+        with_lock(names, &manifest.lock)?,
+        manifest.templates.as_slice(),
+    )
 }
 
 fn with_locks_in(names: NameSet, item: &Item) -> Result<NameSet, Memory>
@@ -82,7 +85,11 @@ fn add_entry(
 {
     let lock = semaphore_lock(alloc, config, &entry.name)?;
     if named.has(&lock.text) {
-        return add_limit(limits, lock, HoldersText::read(alloc, entry.value.as_str())?);
+        return add_limit(
+            limits,
+            lock,
+            HoldersText::read(alloc, entry.value.as_str())?,
+        );
     }
     Ok(())
 }

@@ -497,10 +497,7 @@ fn refuses_fields(rt: HostRuntime) -> Result<(), Fail> {
             r#"{"a":true,"b":1}"#,
             "rule 4, b|rule 4, a|ok|rule 4, a|rule 4, b|rule 4, a|ok|true",
         ),
-        (
-            r#"{"b":[],"c":null}"#,
-            "ok|ok|ok|ok|ok|ok|ok|false",
-        ),
+        (r#"{"b":[],"c":null}"#, "ok|ok|ok|ok|ok|ok|ok|false"),
         (
             r#"{"c":1,"b":{}}"#,
             "rule 4, b|ok|ok|ok|rule 4, b|ok|ok|false",

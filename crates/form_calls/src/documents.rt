@@ -122,10 +122,7 @@ fn counts_groups_and_bytes(rt: HostRuntime) -> Result<(), Fail> {
             expected
         );
     }
-    for (length, expected) in [
-        (253, "valid 1"),
-        (254, "item 0, rule 5, metadata.name"),
-    ] {
+    for (length, expected) in [(253, "valid 1"), (254, "item 0, rule 5, metadata.name")] {
         let read = with_templates(alloc, length, r#"{"name":"c","container":{}}"#)?;
         assert_eq!(rt; read.as_str(), expected, "{length}");
     }
@@ -141,18 +138,45 @@ fn tells_names_of_steps(rt: HostRuntime) -> Result<(), Fail> {
     for (one, other, expected) in [
         ("a", "b", "valid 1"),
         ("A-_9", "onexit", "valid 1"),
-        ("a", "a", "item 0, rule 12, spec.templates[0].steps[1][0].name"),
-        ("a", "", "item 0, rule 13, spec.templates[0].steps[1][0].name"),
-        ("a.b", "c", "item 0, rule 13, spec.templates[0].steps[0][0].name"),
-        ("a", "onExit", "item 0, rule 13, spec.templates[0].steps[1][0].name"),
-        ("hooks", "a", "item 0, rule 13, spec.templates[0].steps[0][0].name"),
+        (
+            "a",
+            "a",
+            "item 0, rule 12, spec.templates[0].steps[1][0].name",
+        ),
+        (
+            "a",
+            "",
+            "item 0, rule 13, spec.templates[0].steps[1][0].name",
+        ),
+        (
+            "a.b",
+            "c",
+            "item 0, rule 13, spec.templates[0].steps[0][0].name",
+        ),
+        (
+            "a",
+            "onExit",
+            "item 0, rule 13, spec.templates[0].steps[1][0].name",
+        ),
+        (
+            "hooks",
+            "a",
+            "item 0, rule 13, spec.templates[0].steps[0][0].name",
+        ),
         (long.as_str(), "a", "valid 1"),
-        (longer.as_str(), "a", "item 0, rule 13, spec.templates[0].steps[0][0].name"),
+        (
+            longer.as_str(),
+            "a",
+            "item 0, rule 13, spec.templates[0].steps[0][0].name",
+        ),
     ] {
         let templates = format!(in alloc;
             r#"{{"name":"c","steps":[[{{"name":"{one}","template":"d"}}],[{{"name":"{other}","template":"d"}}]]}},{{"name":"d","container":{{}}}}"#
         )?;
-        assert_eq!(rt; with_templates(alloc, 1, templates.as_str())?.as_str(), expected);
+        assert_eq!(rt;
+            with_templates(alloc, 1, templates.as_str())?.as_str(),
+            expected
+        );
     }
     Ok(())
 }

@@ -5,6 +5,7 @@ ghost use Rattle.wf_manifest.specs.Valid.{Valid};
 ghost use Rattle.wf_manifest.specs.FirstForm.{IsFirstForm};
 
 use base_types::{Bytes, List, Memory, Text, TryCopy};
+use serde_json::Value;
 use state_calls::{notes, plain_notes};
 use std::alloc::Global;
 use std::test::Fail;
@@ -13,7 +14,6 @@ use tree_print::print_tree;
 use tree_types::{
     Fact, Journal, Kind, Node, Nodes, Note, Outcome, Outputs, Params, Path, Phase, Sel, Sels, Tree,
 };
-use serde_json::Value;
 use wf_bundle::{Document, read_bundle};
 use wf_manifest::Manifest;
 
@@ -100,7 +100,8 @@ fn printed_first(alloc: Global, document: &Document, journal: &Journal) -> Resul
     }
 }
 
-const WORKFLOW: &str = r#"{"kind":"Workflow","apiVersion":"argoproj.io/v1alpha1","metadata":{"name":"w"},
+const WORKFLOW: &str =
+    r#"{"kind":"Workflow","apiVersion":"argoproj.io/v1alpha1","metadata":{"name":"w"},
 "spec":{"entrypoint":"m","templates":[{"name":"m","steps":[
     [{"name":"a","template":"c"},{"name":"b","template":"c"}],
     [{"name":"d","template":"c"}]

@@ -62,7 +62,7 @@ pods_new i j other earlier (p ∷ ps) e =
     let parts = sym (list_any-append (same_claim (pod_claim p)) other (map pod_claim earlier)) ∙ here.0 in
     let new = sym (same_pods p earlier) ∙ right_false (list_any (same_claim (pod_claim p)) other) (list_any (same_claim (pod_claim p)) (map pod_claim earlier)) parts in
     let grown : before ++ pod_claim p ∷ [] ≡ other ++ map pod_claim (earlier ++ p ∷ []) =
-        append_assoc other (map pod_claim earlier) (pod_claim p ∷ []) ∙ ap (λ cs. other ++ cs) (sym (map-append pod_claim earlier (p ∷ []))) in
+    append_assoc other (map pod_claim earlier) (pod_claim p ∷ []) ∙ ap (λ cs. other ++ cs) (sym (map-append pod_claim earlier (p ∷ []))) in
     new_and (list_any (is_same_pod p) earlier) (pods_differ_from (earlier ++ p ∷ []) ps) new
     (pods_new i (suc j) other (earlier ++ p ∷ []) ps (subst (λ cs. first_second cs (pod_spots i (suc j) ps) ≡ Ok tt) grown here.1))
 

@@ -43,7 +43,9 @@ fn add_item(
     ensures added { OnOk result (parts.new ≡ joined parts.old (parts_in item)) }
 {
     match item {
-        Item::Workflow(manifest) => parts.workflows.push(workflow(alloc, limits, position, manifest)?)?,
+        Item::Workflow(manifest) => parts
+            .workflows
+            .push(workflow(alloc, limits, position, manifest)?)?,
         Item::Config(config) => parts.configs.push(config)?,
         Item::Outcomes(plan) => parts.plans.push(plan)?,
         Item::Commands(commands) => parts.commands.push(commands)?,

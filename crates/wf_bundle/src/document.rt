@@ -15,7 +15,9 @@ use crate::checking::check_items;
 use crate::items::items_of;
 use crate::parts::Parts;
 use base_types::{List, Memory, Text};
-use bundle_rules::{BundleRefused, ask_names, ask_schedules, ask_seconds, count_workflows, limits_of};
+use bundle_rules::{
+    BundleRefused, ask_names, ask_schedules, ask_seconds, count_workflows, limits_of,
+};
 use item_reader::{
     Commands, Configs, Item, Plan, PlannedOutcome, Schedule as SaidSchedule, ScheduleStep,
 };

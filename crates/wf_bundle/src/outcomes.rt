@@ -9,8 +9,8 @@ ghost use Rattle.wf_bundle.specs.Outcomes.{planned_for, is_same_pod, pods_differ
 ghost use Rattle.wf_bundle.specs.Inside.Pods.{pods_of};
 
 use base_types::{Memory, Text};
-use item_reader::{Plan, PlannedOutcome, PlannedPod};
 use indexmap::{Equivalent, IndexMap};
+use item_reader::{Plan, PlannedOutcome, PlannedPod};
 use std::alloc::Global;
 use std::hash::{Hash, Hasher};
 use std::marker::Model;

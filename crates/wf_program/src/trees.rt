@@ -81,7 +81,8 @@ impl Trees {
         match tree_text(alloc, document, manifest)? {
             Some(text) => self.text.extend(text.as_slice())?,
             None => {
-                self.large.extend(too_large_line(alloc, &manifest.name)?.as_slice())?;
+                self.large
+                    .extend(too_large_line(alloc, &manifest.name)?.as_slice())?;
                 self.some_large = true;
             }
         }
