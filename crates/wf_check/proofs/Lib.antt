@@ -1,0 +1,5 @@
+mod Firsts
+mod Cleared
+mod Parts
+mod Tasks
+mod Checked
