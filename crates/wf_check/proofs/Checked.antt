@@ -25,12 +25,8 @@ use Rattle.wf_places.specs.Dags.{tasks_places, dag_places}
 use Rattle.wf_places.specs.Places.{input_places, output_places, lock_places, memo_places, steps_of, tasks_of, inside, reaching, body_places, declared_places, template_inside, templates_places, outside, entry_places, entry_if_there, manifest_places}
 use Rattle.wf_check.specs.Verdicts.{checked, verdict}
 use Rattle.wf_check.proofs.Cleared.{Clear, checked_clear, left, right, unbroken, holds}
-use Rattle.wf_check.proofs.Parts.{Fresh, all_fresh, Good, arguments_good, inputs_good, outputs_good, of_manifest, template_there, value_given, CallGood, AreGood, groups_good}
+use Rattle.wf_check.proofs.Parts.{and_true, Fresh, all_fresh, Good, arguments_good, inputs_good, outputs_good, of_manifest, template_there, value_given, CallGood, AreGood, groups_good}
 use Rattle.wf_check.proofs.Tasks.{calls, tasks_good, ranked}
-
-and_true : (a b : Bool) → a ≡ true → b ≡ true → (a && b) ≡ true
-and_true true b e f = f
-and_true false b e f = absurd cc
 
 same_names : (ts : List Task) → call_names (calls ts) ≡ map (λ t. t.call.name) ts
 same_names [] = refl

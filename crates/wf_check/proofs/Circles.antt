@@ -55,18 +55,22 @@ module _ (P : Type 0) where
 
   both : {xs ys : List Place} → Says xs → Says ys → Says (xs ++ ys)
   both {xs} {ys} s t =
-      record { says = λ p among is. elim (among_either xs ys p among) [
-        | inl here ↦ s.says p here is
-        | inr later ↦ t.says p later is
-      ] }
+      record {
+        says = λ p among is. elim (among_either xs ys p among) [
+          | inl here ↦ s.says p here is
+          | inr later ↦ t.says p later is
+        ];
+      }
 
   when : (rule : ℕ) (is : Bool) (path : Path) → (rule ≡ rules.cycle → is ≡ true → P) → Says (broken rule is path)
   when rule false path f = none
   when rule true path f =
-      record { says = λ p among is. elim among [
-        | inl here ↦ f (ap (λ q. q.rule) here ∙ is) refl
-        | inr never ↦ absurd never
-      ] }
+      record {
+        says = λ p among is. elim among [
+          | inl here ↦ f (ap (λ q. q.rule) here ∙ is) refl
+          | inr never ↦ absurd never
+        ];
+      }
 
   other : (rule : ℕ) → (rule == rules.cycle) ≡ false → (is : Bool) (path : Path) → Says (broken rule is path)
   other rule differs is path = when rule is path (λ same breaks. absurd (eqb-false rule rules.cycle differs same))

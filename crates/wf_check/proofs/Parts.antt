@@ -23,7 +23,7 @@ use Rattle.wf_places.specs.Calls.{argument_places, arguments_places, template_pl
 use Rattle.wf_places.specs.Places.{input_places, source_places, output_places}
 use Rattle.wf_check.proofs.Cleared.{Clear, left, right, unbroken, holds}
 
-and_true : (a b : Bool) → a ≡ true → b ≡ true → (a && b) ≡ true
+pub and_true : (a b : Bool) → a ≡ true → b ≡ true → (a && b) ≡ true
 and_true true b e f = f
 and_true false b e f = absurd cc
 

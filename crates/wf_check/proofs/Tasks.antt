@@ -24,11 +24,7 @@ use Rattle.wf_places.specs.Dags.{named_places, dependencies_places, depends_plac
 use Rattle.wf_places.proofs.Bounded.{count, Same, grow}
 use Rattle.wf_places.proofs.Waiting.{is_told, is_shown}
 use Rattle.wf_check.proofs.Cleared.{Clear, left, right, holds}
-use Rattle.wf_check.proofs.Parts.{Fresh, CallGood, AreGood, of_manifest, call_good}
-
-and_true : (a b : Bool) → a ≡ true → b ≡ true → (a && b) ≡ true
-and_true true b e f = f
-and_true false b e f = absurd cc
+use Rattle.wf_check.proofs.Parts.{and_true, Fresh, CallGood, AreGood, of_manifest, call_good}
 
 and_parts : (a b : Bool) → (a && b) ≡ true → (a ≡ true) × (b ≡ true)
 and_parts true b e = (refl, e)
