@@ -1,5 +1,5 @@
 -- A manifest that the rules let pass is valid.
-use Rattle.std.proofs.Common.{◌≡◌, ℕ, suc, Bool, true, false, ◌&&◌, not, List, [], ◌∷◌, ◌++◌, length, take, map, Option, Some, None, Ok, refl, sym, ap, ◌∙◌, subst}
+use Rattle.std.proofs.Common.{◌≡◌, ℕ, suc, Bool, true, false, ◌&&◌, not, List, [], ◌∷◌, ◌++◌, take, map, Option, Some, None, Ok, refl, ap, ◌∙◌, subst}
 use Rattle.std.specs.Prelude.{All, IsTrue, codes}
 use Rattle.std.specs.List.{list_all, flat_map}
 use Rattle.std.proofs.lemmas.List.Folds.{list_all-append}
@@ -16,21 +16,16 @@ use Rattle.wf_manifest.specs.declared.templates.Template.{Template}
 use Rattle.wf_manifest.specs.declared.manifest.Manifest.{Manifest}
 use Rattle.node_names.specs.Names.{is_step_name}
 use Rattle.wf_manifest.specs.Valid.{Valid, template_names, calls_in, calls_of, argument_names, call_lists, template_lists, parameter_lists, steps_differ, has_step_names, has_template, has_named, call_is_there, calls_are_there, lists_are_short, parameters_are_short, retries_fit, template_named, gives_values, named_gives_values, call_gives_values, calls_give_values, task_names, waits_for, tasks_are_there, is_of_one_spelling, HasNoCircle}
-use Rattle.wf_places.specs.declared.place.Place.{Place}
 use Rattle.wf_places.specs.Broken.{broken, plain_places}
 use Rattle.wf_places.specs.Circles.{has_circle}
 use Rattle.wf_places.specs.Tags.{Around, call_names, of_workflow, of_inputs, of_calls}
-use Rattle.wf_places.specs.Calls.{arguments_places, template_places, lacks_value, groups_places}
-use Rattle.wf_places.specs.Dags.{tasks_places, dag_places}
-use Rattle.wf_places.specs.Places.{input_places, output_places, lock_places, memo_places, steps_of, tasks_of, inside, reaching, body_places, declared_places, template_inside, templates_places, outside, entry_places, entry_if_there, manifest_places}
-use Rattle.wf_check.specs.Verdicts.{checked, verdict}
+use Rattle.wf_places.specs.Calls.{arguments_places, template_places, lacks_value}
+use Rattle.wf_places.specs.Dags.{tasks_places}
+use Rattle.wf_places.specs.Places.{input_places, output_places, lock_places, memo_places, steps_of, tasks_of, inside, reaching, body_places, template_inside, templates_places, outside, entry_places, entry_if_there, manifest_places}
+use Rattle.wf_check.specs.Verdicts.{verdict}
 use Rattle.wf_check.proofs.Cleared.{Clear, checked_clear, left, right, unbroken, holds}
-use Rattle.wf_check.proofs.Parts.{Fresh, all_fresh, Good, arguments_good, inputs_good, outputs_good, of_manifest, template_there, value_given, CallGood, AreGood, groups_good}
+use Rattle.wf_check.proofs.Parts.{and_true, Fresh, all_fresh, Good, arguments_good, inputs_good, outputs_good, of_manifest, template_there, value_given, CallGood, AreGood, groups_good}
 use Rattle.wf_check.proofs.Tasks.{calls, tasks_good, ranked}
-
-and_true : (a b : Bool) → a ≡ true → b ≡ true → (a && b) ≡ true
-and_true true b e f = f
-and_true false b e f = absurd cc
 
 same_names : (ts : List Task) → call_names (calls ts) ≡ map (λ t. t.call.name) ts
 same_names [] = refl

@@ -1,5 +1,5 @@
 -- Places that the rules let pass: none of the rules is broken there.
-use Rattle.std.proofs.Common.{◌≡◌, ℕ, zero, suc, Bool, true, false, ◌||◌, ◌&&◌, not, List, [], ◌∷◌, ◌++◌, length, take, Ok, Err, refl, sym, ap, ◌∙◌, subst}
+use Rattle.std.proofs.Common.{◌≡◌, ℕ, Bool, true, false, ◌||◌, not, List, [], ◌∷◌, ◌++◌, Ok, Err, refl, sym, ap, ◌∙◌}
 use Rattle.std.specs.Prelude.{◌==◌, if◌then◌else◌}
 use Rattle.std.specs.List.{list_any}
 use Rattle.json_fields.specs.Paths.{Path}
@@ -65,7 +65,7 @@ checked_clear ps e =
     let a6 = ask (asked rules.unknown_lock ps) r7 a5.1 in
     let a7 = ask (asked rules.misplaced_tag ps) r8 a6.1 in
     let a8 = ask (asked rules.unknown_parameter ps) r9 a7.1 in
-    all_clear ps (a1.0, a2.0, a3.0, a4.0, a5.0, a6.0, a7.0, a8.0, a8.1, tt)
+    all_clear ps (a1.0, (a2.0, (a3.0, (a4.0, (a5.0, (a6.0, (a7.0, (a8.0, (a8.1, tt)))))))))
 
 pub left : (xs ys : List Place) → Clear (xs ++ ys) → Clear xs
 left [] ys c = tt

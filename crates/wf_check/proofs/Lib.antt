@@ -3,3 +3,4 @@ mod Cleared
 mod Parts
 mod Tasks
 mod Checked
+mod Circles

@@ -1,5 +1,5 @@
 -- What stands in lists and calls at which no rule is broken.
-use Rattle.std.proofs.Common.{◌≡◌, ℕ, zero, suc, ◌+◌, Bool, true, false, ◌||◌, ◌&&◌, not, List, [], ◌∷◌, ◌++◌, length, take, map, Option, Some, None, refl, sym, ap, ◌∙◌, subst, append_assoc, arith}
+use Rattle.std.proofs.Common.{◌≡◌, ℕ, suc, ◌+◌, Bool, true, false, ◌&&◌, not, List, [], ◌∷◌, ◌++◌, length, take, map, Option, Some, None, refl, sym, ap, ◌∙◌, subst, append_assoc, arith}
 use Rattle.std.specs.Prelude.{is_some, is_none, codes}
 use Rattle.std.specs.List.{list_all}
 use Rattle.std.proofs.Math.Seq.{take-append_seam}
@@ -16,14 +16,13 @@ use Rattle.wf_manifest.specs.declared.templates.Input.{Input}
 use Rattle.wf_manifest.specs.declared.templates.OutputDecl.{OutputDecl}
 use Rattle.wf_manifest.specs.declared.manifest.Manifest.{Manifest}
 use Rattle.wf_manifest.specs.Valid.{argument_names, hook_lists, call_lists, calls_in, has_template, hook_is_there, call_is_there, gives_values, hook_gives_values, call_gives_values, template_named}
-use Rattle.wf_places.specs.declared.place.Place.{Place}
 use Rattle.wf_places.specs.Broken.{broken, plain_places, name_places}
 use Rattle.wf_places.specs.Tags.{Around, call_names, text_places, text_if_there}
-use Rattle.wf_places.specs.Calls.{argument_places, arguments_places, template_places, lacks_value, loop_places, hook_path, hook_template_path, hook_call, hook_places, in_hook, looped, call_front, call_back, step_places, group_places, behind, groups_places}
+use Rattle.wf_places.specs.Calls.{argument_places, arguments_places, template_places, lacks_value, loop_places, hook_path, hook_template_path, hook_places, in_hook, looped, call_front, call_back, group_places, behind, groups_places}
 use Rattle.wf_places.specs.Places.{input_places, source_places, output_places}
 use Rattle.wf_check.proofs.Cleared.{Clear, left, right, unbroken, holds}
 
-and_true : (a b : Bool) → a ≡ true → b ≡ true → (a && b) ≡ true
+pub and_true : (a b : Bool) → a ≡ true → b ≡ true → (a && b) ≡ true
 and_true true b e f = f
 and_true false b e f = absurd cc
 

@@ -1,7 +1,7 @@
 -- What stands in DAGs at which no rule is broken.
-use Rattle.std.proofs.Common.{◌≡◌, ◌⊎◌, ℕ, suc, ◌<◌, Bool, true, false, ◌||◌, ◌&&◌, not, List, [], ◌∷◌, ◌++◌, length, take, map, Option, Some, None, refl, sym, ap, ◌∙◌, subst, inl, inr, arith}
+use Rattle.std.proofs.Common.{◌≡◌, ℕ, suc, ◌<◌, Bool, true, false, ◌||◌, ◌&&◌, not, List, [], ◌∷◌, ◌++◌, take, map, Option, Some, None, refl, sym, ap, ◌∙◌, subst, inl, inr}
 use Rattle.std.specs.Prelude.{All, bytes_eq, codes, if◌then◌else◌}
-use Rattle.std.specs.List.{list_all, list_any, Contains}
+use Rattle.std.specs.List.{list_all, list_any}
 use Rattle.std.proofs.lemmas.Bool.{cases_Bool}
 use Rattle.std.proofs.lemmas.List.Elements.{All-nil, All-cons}
 use Rattle.base_types.specs.Names.{is_among}
@@ -13,9 +13,8 @@ use Rattle.wf_manifest.specs.declared.calls.Call.{Call}
 use Rattle.wf_manifest.specs.declared.calls.Task.{Task}
 use Rattle.wf_manifest.specs.declared.manifest.Manifest.{Manifest}
 use Rattle.wf_manifest.specs.Valid.{names_in, waits_for, HasRank}
-use Rattle.task_order.specs.Ancestors.{names, Waits, IsAncestor, parent, above}
-use Rattle.task_order.proofs.Among.{Among, contains_from, same_text, listed, any_from, is_listed}
-use Rattle.wf_places.specs.declared.place.Place.{Place}
+use Rattle.task_order.specs.Ancestors.{names, Waits, parent, above}
+use Rattle.task_order.proofs.Among.{Among, contains_from, same_text, listed, any_from}
 use Rattle.wf_places.specs.Broken.{broken}
 use Rattle.wf_places.specs.Circles.{is_ancestor, has_circle}
 use Rattle.wf_places.specs.Tags.{Around, call_names}
@@ -24,11 +23,7 @@ use Rattle.wf_places.specs.Dags.{named_places, dependencies_places, depends_plac
 use Rattle.wf_places.proofs.Bounded.{count, Same, grow}
 use Rattle.wf_places.proofs.Waiting.{is_told, is_shown}
 use Rattle.wf_check.proofs.Cleared.{Clear, left, right, holds}
-use Rattle.wf_check.proofs.Parts.{Fresh, CallGood, AreGood, of_manifest, call_good}
-
-and_true : (a b : Bool) → a ≡ true → b ≡ true → (a && b) ≡ true
-and_true true b e f = f
-and_true false b e f = absurd cc
+use Rattle.wf_check.proofs.Parts.{and_true, Fresh, AreGood, of_manifest, call_good}
 
 and_parts : (a b : Bool) → (a && b) ≡ true → (a ≡ true) × (b ≡ true)
 and_parts true b e = (refl, e)

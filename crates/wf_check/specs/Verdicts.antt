@@ -1,5 +1,5 @@
 -- What the rules say of a manifest. Their order is this project's own.
-use Rattle.std.specs.Prelude.{◌≡◌, ℕ, ℤ, List, [], ◌∷◌, Bool, if◌then◌else◌, ◌==◌, Result, Ok, Err}
+use Rattle.std.specs.Prelude.{◌≡◌, ℕ, ℤ, List, [], ◌∷◌, if◌then◌else◌, ◌==◌, Result, Ok, Err}
 use Rattle.field_kinds.specs.Reading.{Read, ◌>>=◌, refuse_by}
 use Rattle.field_kinds.specs.Refusing.{Refuses}
 use Rattle.field_kinds.specs.declared.refused.KindRefused.{KindRefused}

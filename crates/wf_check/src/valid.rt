@@ -41,8 +41,8 @@ fn find(alloc: Global, limits: &LockLimits<'_>, manifest: &Manifest) -> Result<(
     checked(places.as_slice())
 }
 
-/// The manifest, where no rule finds anything in it, else the first refusal: by the first of the rules in their order that
-/// finds something, the first place in reading order. The semaphores of `limits` have limits.
+/// The manifest, where no rule finds anything in it, else the first refusal: by the first of the rules in their order
+/// that finds something, the first place in reading order. The semaphores of `limits` have limits.
 pub fn check(
     alloc: Global,
     limits: &LockLimits<'_>,

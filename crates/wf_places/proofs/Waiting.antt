@@ -1,7 +1,7 @@
 -- The tests of ancestors and of circles tell what the relations of tasks say.
 use Rattle.std.proofs.Common.{◌≡◌, ◌↔◌, ℕ, zero, suc, Bool, true, false, ◌&&◌, ◌||◌, ◌⊎◌, List, length, Option, Some, None, Result, Ok, Err, not, refl, sym, ap, ◌∙◌, subst, inl, inr}
 use Rattle.std.specs.Prelude.{bytes_eq, IsTrue, is_none, IfOk, IfSome, IfNone}
-use Rattle.std.specs.List.{list_any, Contains}
+use Rattle.std.specs.List.{list_any}
 use Rattle.std.proofs.lemmas.Bool.{cases_Bool}
 use Rattle.base_types.specs.Names.{is_among}
 use Rattle.base_types.specs.declared.memory.Memory.{Memory}

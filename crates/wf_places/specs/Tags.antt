@@ -1,9 +1,9 @@
 -- Which tags may stand in a text, and what they may name (Argo, "Workflow variables"). Where that is not said there it is
 -- this project's own.
-use Rattle.std.specs.Prelude.{ℕ, List, [], ◌∷◌, ◌++◌, map, take, Bool, true, false, not, ◌||◌, Option, Some, None, bytes_eq, nat_le, codes}
+use Rattle.std.specs.Prelude.{ℕ, List, [], ◌∷◌, ◌++◌, map, take, Bool, true, false, not, ◌||◌, Option, Some, None, bytes_eq, nat_le}
 use Rattle.std.specs.List.{find}
 use Rattle.base_types.specs.Names.{is_among}
-use Rattle.json_fields.specs.Paths.{Path, field_of}
+use Rattle.json_fields.specs.Paths.{Path}
 use Rattle.field_kinds.specs.Rules as rules
 use Rattle.tag_text.specs.declared.part.Part.{Part}
 use Rattle.tag_text.specs.declared.part.Part.TheVariants.{Plain, Tag}
