@@ -1,6 +1,6 @@
 //! The limits that ConfigMaps give to the semaphores that workflows name.
 
-ghost use Rattle.std.specs.Prelude.{◌≡◌, ◌++◌, IfOk, OnOk};
+ghost use Rattle.std.specs.Prelude.{◌≡◌, ◌++◌, [], IfOk, OnOk};
 ghost use Rattle.std.specs.List.{flat_map};
 ghost use Rattle.bundle_rules.specs.LockLimits as spec;
 
@@ -131,16 +131,22 @@ fn add_item(
     }
 }
 
+// The limits that the ConfigMaps give to these locks.
+fn limits_by(alloc: Global, named: &NameSet, items: &[Item]) -> Result<Limits, Memory>
+    ensures { IfOk result (λ limits. limits ≡ spec.limits_from named.now [] items.now) }
+{
+    let mut before = NameSet::new(alloc);
+    let mut limits = List::new(alloc);
+    for i in 0..items.len() {
+        before = add_item(alloc, &mut limits, named, before, &items[i])?;
+    }
+    Ok(limits)
+}
+
 /// The limits of a document's semaphores: of those that its workflows name and a ConfigMap gives a limit. Another text than
 /// a limit gives none.
 pub fn limits_of(alloc: Global, items: &[Item]) -> Result<Limits, Memory>
     ensures { IfOk result (λ limits. limits ≡ spec.limits_of items.now) }
 {
-    let named = locks(alloc, items)?;
-    let mut before = NameSet::new(alloc);
-    let mut limits = List::new(alloc);
-    for i in 0..items.len() {
-        before = add_item(alloc, &mut limits, &named, before, &items[i])?;
-    }
-    Ok(limits)
+    limits_by(alloc, &locks(alloc, items)?, items)
 }

@@ -1,7 +1,0 @@
--- What is listed and what is left make the whole.
-use Rattle.std.proofs.Common.{◌≡◌, ◌++◌, drop}
-use Rattle.bundle_rules.specs.LockLimits.{limits_of, limits_from}
-use Rattle.bundle_rules.proofs.limits.limits_of.Given as goal
-
-abbrev pub invariant-loop-i : goal.invariant-loop-i
-invariant-loop-i l = l.limits ++ limits_from l.named l.before (drop l.i l.items) ≡ limits_of l.items
