@@ -1,8 +1,8 @@
 -- Where nothing is said twice, no two outcomes are planned for one pod.
-use Rattle.std.proofs.Common.{◌≡◌, ℕ, suc, List, [], ◌∷◌, ◌++◌, map, Bool, true, false, ◌||◌, ◌&&◌, not, cond, Ok, refl, sym, ap, subst, ◌∙◌, append_assoc, append_nil}
+use Rattle.std.proofs.Common.{◌≡◌, ℕ, suc, List, [], ◌∷◌, ◌++◌, map, Bool, true, false, ◌||◌, ◌&&◌, not, cond, Ok, refl, sym, ap, subst, ◌∙◌, append_assoc}
 use Rattle.std.specs.Prelude.{codes}
 use Rattle.std.specs.List.{list_any, flat_map}
-use Rattle.std.proofs.lemmas.List.{map-append}
+use Rattle.std.proofs.lemmas.List.{map-append, append-nil}
 use Rattle.std.proofs.lemmas.List.Folds.{list_any-append}
 use Rattle.field_kinds.specs.Rules as rules
 use Rattle.item_reader.specs.declared.outcomes.PlannedPod.{PlannedPod}
@@ -28,7 +28,7 @@ one before s ss e = by (list_any (same_claim s.claim) before) refl e
     by false is e = (is, e)
 
 both : (before : List Claim) (a b : List Spot) → first_second before (a ++ b) ≡ Ok tt → (first_second before a ≡ Ok tt) × (first_second (before ++ claims a) b ≡ Ok tt)
-both before [] b e = (refl, subst (λ cs. first_second cs b ≡ Ok tt) (sym (append_nil before)) e)
+both before [] b e = (refl, subst (λ cs. first_second cs b ≡ Ok tt) (sym (append-nil before)) e)
 both before (s ∷ a) b e =
     let here = one before s (a ++ b) e in
     let rest = both (before ++ s.claim ∷ []) a b here.1 in
@@ -74,7 +74,7 @@ plan_differs before i (item.Outcomes plan ∷ xs) e =
     let first = both before (item_spots i (item.Outcomes plan)) (spots (suc i) xs) e in
     let behind = one before (spot i [] claim.Outcomes) (pod_spots i 0 plan.pods) first.0 in
     let other = before ++ claim.Outcomes ∷ [] in
-    pods_new i 0 other [] plan.pods (subst (λ cs. first_second cs (pod_spots i 0 plan.pods) ≡ Ok tt) (sym (append_nil other)) behind.1)
+    pods_new i 0 other [] plan.pods (subst (λ cs. first_second cs (pod_spots i 0 plan.pods) ≡ Ok tt) (sym (append-nil other)) behind.1)
 plan_differs before i (item.Workflow m ∷ xs) e = let s = both before (item_spots i (item.Workflow m)) (spots (suc i) xs) e in plan_differs (before ++ claims (item_spots i (item.Workflow m))) (suc i) xs s.1
 plan_differs before i (item.Config c ∷ xs) e = let s = both before (item_spots i (item.Config c)) (spots (suc i) xs) e in plan_differs (before ++ claims (item_spots i (item.Config c))) (suc i) xs s.1
 plan_differs before i (item.Commands cs ∷ xs) e = let s = both before (item_spots i (item.Commands cs)) (spots (suc i) xs) e in plan_differs (before ++ claims (item_spots i (item.Commands cs))) (suc i) xs s.1

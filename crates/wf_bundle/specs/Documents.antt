@@ -32,7 +32,7 @@ abbrev pub is_list : Data → Bool
 is_list d = is_kind (codes "List") d
 
 abbrev pub values_if : Bool → Kind Items
-values_if true = required (needs_list most_list_items) (codes "items")
+values_if true at d = required (needs_list most_list_items) (codes "items") at d
 values_if false at d = Ok (value d no_items)
 
 -- a `List` stands for its `items`, and its other members are not read; any other object stands for itself

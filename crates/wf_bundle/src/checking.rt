@@ -1,12 +1,11 @@
 //! The second pass over a document: each workflow by itself.
 
-ghost use Rattle.std.specs.Prelude.{◌≡◌, ◌≤◌, length, Ok, IfOk, OnOk};
+ghost use Rattle.std.specs.Prelude.{◌≡◌, ◌≤◌, length, IfOk, OnOk};
 ghost use Rattle.base_types.specs.Limits.{most_list_items};
-ghost use Rattle.field_kinds.specs.Reading.{◌>>=◌};
 ghost use Rattle.wf_check.specs.Verdicts.{verdict};
 ghost use Rattle.bundle_rules.specs.Findings.{Finds, of_item};
-ghost use Rattle.wf_bundle.specs.Documents.{item_checked, items_checked};
-ghost use Rattle.wf_bundle.specs.Inside.Parts.{Passes, parts_in, parts_of, joined};
+ghost use Rattle.wf_bundle.specs.Documents.{item_checked};
+ghost use Rattle.wf_bundle.specs.Inside.Parts.{Passes, parts_in, joined, taken};
 
 use crate::parts::Parts;
 use base_types::List;
@@ -55,13 +54,14 @@ fn add_item(
 }
 
 /// The items by their kinds, where no rule finds anything in a workflow. The semaphores of `limits` have limits.
+#[tactic(auto, using(crate::proofs::Accepted::taken_more, crate::proofs::Accepted::refused_later))]
 pub(crate) fn check_items(
     alloc: Global,
     limits: &LockLimits<'_>,
     items: List<Item>,
 ) -> Result<Parts, BundleRefused>
     requires few { length items ≤ most_list_items }
-    ensures { Finds result (items_checked limits.now 0 items >>= λ _. Ok (parts_of items)) }
+    ensures { Finds result (taken limits.now items) }
 {
     let mut parts = Parts::new(alloc);
     let mut position: u32 = 0;

@@ -4,11 +4,12 @@ ghost use Rattle.std.specs.Prelude.{◌≡◌, ◌≤◌, length, All, IfOk, tru
 ghost use Rattle.std.specs.List.{filter_map};
 ghost use Rattle.serde_json.specs.View.{view};
 ghost use Rattle.base_types.specs.Limits.{most_list_items};
-ghost use Rattle.wf_manifest.specs.Valid.{Valid};
-ghost use Rattle.bundle_rules.specs.Findings.{Finds};
+ghost use Rattle.wf_manifest.specs.Valid as manifests;
+ghost use Rattle.bundle_rules.specs.Findings.{Found, Finds};
 ghost use Rattle.wf_bundle.specs.Documents as documents;
 ghost use Rattle.wf_bundle.specs.Outcomes.{planned_for, pods_differ};
-ghost use Rattle.wf_bundle.specs.Inside.Parts.{document_by};
+ghost use Rattle.wf_bundle.specs.Inside.Parts.{document_by, taken, behind_found, accepted, made};
+ghost use Rattle.wf_bundle.specs.declared.parts.Parts.{Parts as Taken};
 
 use crate::Outcomes;
 use crate::checking::check_items;
@@ -25,7 +26,9 @@ use serde_json::Value;
 use std::alloc::Global;
 use tree_types::Limits;
 use wf_check::Valid;
+use wf_check::law::checked_valid;
 use wf_places::LockLimits;
+use wf_reader::law::reads_short;
 
 /// A list of workflows in which no rule finds anything.
 pub type Valids = List<Valid>;
@@ -148,25 +151,70 @@ fn ask_whole(alloc: Global, items: &[Item]) -> Result<(), BundleRefused>
     ask_schedules(alloc, items)
 }
 
+fn checked_parts(alloc: Global, limits: &Limits, items: List<Item>) -> Result<Parts, BundleRefused>
+    requires few { length items ≤ most_list_items }
+    ensures { Finds result (taken (documents.limited limits.now) items) }
+{
+    let limited = LockLimits::new(alloc, limits.as_slice())?;
+    check_items(alloc, &limited, items)
+}
+
+// The parts, unless the document as a whole is refused.
+fn behind(whole: Result<(), BundleRefused>, parts: Parts) -> Result<Parts, BundleRefused>
+    ensures { (found : Found (Unit {0})) → Finds whole found → Finds result (behind_found found parts) }
+{
+    match whole {
+        Ok(()) => Ok(parts),
+        Err(refused) => Err(refused),
+    }
+}
+
+// The second pass gives the items up, so what the third finds is found first, and refused behind it.
+fn accepted_parts(alloc: Global, limits: &Limits, items: List<Item>) -> Result<Parts, BundleRefused>
+    requires few { length items ≤ most_list_items }
+    ensures told { Finds result (accepted (documents.limited limits.now) items) }
+    ensures differ { IfOk result
+        (λ parts. pods_differ (documents.first_or documents.no_plan parts.plans).pods ≡ true) }
+{
+    let whole = ask_whole(alloc, items.as_slice());
+    let parts = checked_parts(alloc, limits, items)?;
+    behind(whole, parts)
+}
+
+fn made(
+    alloc: Global,
+    limits: Limits,
+    accepted: Result<Parts, BundleRefused>,
+) -> Result<Document, BundleRefused>
+    requires differ { IfOk accepted
+        (λ parts. pods_differ (documents.first_or documents.no_plan parts.plans).pods ≡ true) }
+    ensures { (found : Found Taken) → Finds accepted found → Finds result (made limits found) }
+{
+    match accepted {
+        Ok(parts) => Ok(document_by(alloc, limits, parts)?),
+        Err(refused) => Err(refused),
+    }
+}
+
 // The document of these items.
 fn document_in(alloc: Global, items: List<Item>) -> Result<Document, BundleRefused>
     requires few { length items ≤ most_list_items }
     ensures { Finds result (documents.document_in items) }
 {
     let limits = limits_of(alloc, items.as_slice())?;
-    // The second pass gives the items up, so what the third finds is found first, and refused behind it.
-    let whole = ask_whole(alloc, items.as_slice());
-    let parts = check_items(alloc, &LockLimits::new(alloc, limits.as_slice())?, items)?;
-    whole?;
-    Ok(document_by(alloc, limits, parts)?)
+    let accepted = accepted_parts(alloc, &limits, items);
+    made(alloc, limits, accepted)
 }
 
 /// The document that a JSON value is, or its first refusal.
 #[tactic(auto, unfolding(crate::specs::Documents::document_of))]
 pub fn read_bundle(alloc: Global, value: &Value) -> Result<Document, BundleRefused>
     ensures read { Finds result (documents.document_of (view value.now)) }
-    ensures valid { IfOk result (λ document. All Valid document.workflows) }
+    ensures valid { IfOk result (λ document. All manifests.Valid document.workflows) }
 {
+    // The second clause rests on these laws.
+    reads_short();
+    checked_valid();
     let items = items_of(alloc, value)?;
     count_workflows(alloc, items.as_slice())?;
     document_in(alloc, items)

@@ -1,6 +1,6 @@
 //! The first pass over a document: its items.
 
-ghost use Rattle.std.specs.Prelude.{◌≡◌, ◌≤◌, length, IfOk, codes};
+ghost use Rattle.std.specs.Prelude.{◌≡◌, ◌≤◌, [], length, IfOk, codes};
 ghost use Rattle.serde_json.specs.View.{view, items_view};
 ghost use Rattle.base_types.specs.Limits.{most_list_items};
 ghost use Rattle.field_kinds.specs.Refusing.{Shows};

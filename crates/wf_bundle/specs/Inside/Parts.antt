@@ -1,13 +1,14 @@
 -- The items of a document by their kinds, while the items are given up one by one.
-use Rattle.std.specs.Prelude.{◌≡◌, List, [], ◌++◌, Result, Ok, Err}
+use Rattle.std.specs.Prelude.{◌≡◌, ℕ, List, [], ◌++◌, Result, Ok, Err}
 use Rattle.std.specs.List.{flat_map}
 use Rattle.tree_types.specs.declared.entry.Limit.{Limit}
+use Rattle.field_kinds.specs.Reading.{◌>>=◌}
 use Rattle.item_reader.specs.declared.items.Item.{Item}
 use Rattle.bundle_rules.specs.declared.refused.BundleRefused.{BundleRefused}
 use Rattle.bundle_rules.specs.Findings.{Found, IsRefusedAs}
 use Rattle.wf_bundle.specs.declared.parts.Parts.{Parts}
 use Rattle.wf_bundle.specs.declared.document.Document.{Document}
-use Rattle.wf_bundle.specs.Documents.{workflow_in, config_in, plan_in, commands_in, schedule_in, first_or, no_plan, no_schedule, schedule_of}
+use Rattle.wf_bundle.specs.Documents.{workflow_in, config_in, plan_in, commands_in, schedule_in, items_checked, whole_asked, first_or, no_plan, no_schedule, schedule_of}
 
 abbrev pub parts_in : Item → Parts
 parts_in x = record {
@@ -45,6 +46,26 @@ document_by limits p = record {
   commands = first_or [] p.commands;
   schedule = schedule_of (first_or no_schedule p.schedules);
 }
+
+-- what is taken behind these parts of the items that are left, the first of these having that position
+abbrev pub taken_from : List (List ℕ) → ℕ → Parts → List Item → Found Parts
+taken_from limited i parts xs = items_checked limited i xs >>= λ _. Ok (joined parts (parts_of xs))
+
+-- the parts of items of which each workflow passes
+abbrev pub taken : List (List ℕ) → List Item → Found Parts
+taken limited xs = items_checked limited 0 xs >>= λ _. Ok (parts_of xs)
+
+-- the parts, where nothing is found
+abbrev pub behind_found : Found (Unit {0}) → Parts → Found Parts
+behind_found found p = found >>= λ _. Ok p
+
+-- the parts of items of which each workflow passes, and the document as a whole
+abbrev pub accepted : List (List ℕ) → List Item → Found Parts
+accepted limited xs = items_checked limited 0 xs >>= λ _. behind_found (whole_asked xs) (parts_of xs)
+
+-- the document of these parts
+abbrev pub made : List Limit → Found Parts → Found Document
+made limits found = found >>= λ p. Ok (document_by limits p)
 
 -- What is given passes, or the refusal is what is found.
 abbrev pub Passes : {X : Type 0} → Result X BundleRefused → Found (Unit {0}) → Type 0
