@@ -1,0 +1,5 @@
+mod Waiting
+mod Alike
+mod Solving
+mod Told
+mod Suffice
