@@ -3,3 +3,4 @@ mod Alike
 mod Solving
 mod Told
 mod Suffice
+mod Rows
