@@ -21,6 +21,7 @@ use Rattle.books.specs.declared.Request.{Request}
 use Rattle.books.specs.Books.{request_of, is_holding}
 use Rattle.saves.specs.declared.Saved.{Saved}
 use Rattle.saves.specs.Saves.{look, has_saved}
+use Rattle.suspend_resume.specs.Suspension.{reaches}
 use Rattle.law.specs.Documents.{Text, Command, Resume, Resubmit, Document}
 use Rattle.law.specs.Contents.{Flow, PodObject, Book}
 use Rattle.law.specs.Justified.{tree_of, wants_of, key, rank}
@@ -151,7 +152,7 @@ module _ (D : Document) (w : Text) (v : Views) (s : Seen Flow) where
 
   -- Resumed, of a suspended node that a command resumes
   abbrev pub resumes : ℕ → Command → Bool
-  resumes armed (Resume c) = bytes_eq c.workflow w && (nat_le armed c.tick && nat_le c.tick s.tick)
+  resumes armed (Resume c) = bytes_eq c.workflow w && reaches armed c.tick s.tick
   resumes armed (Resubmit c) = false
 
   abbrev pub resumed_node : Node → Option ℕ → Option Matter

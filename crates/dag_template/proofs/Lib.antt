@@ -1,0 +1,6 @@
+mod Waiting
+mod Alike
+mod Solving
+mod Told
+mod Suffice
+mod Rows

@@ -1,0 +1,3 @@
+pub mod Groups
+pub mod Opened
+pub use Rattle.meaning.specs.Steps

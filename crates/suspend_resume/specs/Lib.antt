@@ -1,0 +1,2 @@
+pub mod Suspension
+pub use Rattle.meaning.specs.Suspends

@@ -1,0 +1,6 @@
+//! When a suspended node ends.
+#![tactic(auto)]
+
+mod suspension;
+
+pub use suspension::{resumes, suspend_phase};
