@@ -1,3 +1,4 @@
 mod Within
 mod Ended
 mod Plain
+mod Turns

@@ -1,5 +1,5 @@
 -- What is answered to an order and a JSON value. The texts are this project's own.
-use Rattle.std.specs.Prelude.{ℕ, List, [], ◌++◌, length, nat_lt, Bool, if◌then◌else◌, Result, Ok, Err, codes, decimal}
+use Rattle.std.specs.Prelude.{ℕ, List, [], ◌++◌, length, nat_lt, Bool, true, false, if◌then◌else◌, Result, Ok, Err, codes, decimal}
 use Rattle.std.specs.List.{list_any, flat_map}
 use Rattle.serde_json.specs.Data.{Data}
 use Rattle.base_types.specs.Limits.{most_nodes}
@@ -49,8 +49,12 @@ is_too_large D m = nat_lt most_nodes (length (nodes_of D m))
 abbrev pub too_large_line : List ℕ → List ℕ
 too_large_line name = codes "argo: too large: " ++ name ++ codes "\n"
 
+abbrev pub line_if : Bool → List ℕ → List ℕ
+line_if true name = too_large_line name
+line_if false name = []
+
 abbrev pub line_if_large : Document → Manifest → List ℕ
-line_if_large D m = if is_too_large D m then too_large_line m.name else []
+line_if_large D m = line_if (is_too_large D m) m.name
 
 -- a line for each workflow whose tree is too large
 abbrev pub too_large_text : Document → List ℕ
@@ -74,7 +78,8 @@ answer_by mode.Generate order D = answer.NotBuilt
 
 abbrev pub refused_text : ℕ → ℕ → List ℕ → List ℕ
 refused_text item rule field =
-    (codes "argo: refused: item " ++ decimal item) ++ (codes ", rule " ++ decimal rule) ++ codes ", " ++ printed field ++ codes "\n"
+    codes "argo: refused: item " ++ decimal item ++ codes ", rule " ++ decimal rule ++ codes ", " ++ printed field
+    ++ codes "\n"
 
 abbrev pub answer_of : Order → Found Document → Answered
 answer_of order (Ok D) = answer_by order.mode order D

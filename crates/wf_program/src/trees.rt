@@ -1,6 +1,6 @@
 //! The trees of a document's workflows.
 
-ghost use Rattle.std.specs.Prelude.{◌≡◌, ◌++◌, ◌||◌, [], false, IfOk, OnOk, All, Ok};
+ghost use Rattle.std.specs.Prelude.{◌≡◌, ◌++◌, [], false, is_none, IfOk, IfSome, OnOk, All};
 ghost use Rattle.wf_manifest.specs.Valid.{Valid};
 ghost use Rattle.wf_manifest.specs.FirstForm.{IsFirstForm};
 ghost use Rattle.wf_program.specs.Answers as answers;
@@ -32,7 +32,8 @@ fn tree_text(
 ) -> Result<Option<Bytes>, Memory>
     requires valid { Valid manifest.now }
     requires first { IsFirstForm manifest.now }
-    ensures { IfOk result (λ text. text ≡ inside.text_if_small document.now manifest.now) }
+    ensures large { IfOk result (λ text. is_none text ≡ answers.is_too_large document.now manifest.now) }
+    ensures text { IfOk result (λ text. IfSome text (λ t. t ≡ answers.text_of document.now manifest.now)) }
 {
     let run = PlannedRun {
         workflow: &manifest.name,
@@ -48,6 +49,24 @@ fn tree_text(
         Err(TreeRefused::TooLarge) => Ok(None),
         Err(TreeRefused::Memory) => Err(Memory),
     }
+}
+
+fn add_line(alloc: Global, lines: &mut Bytes, large: bool, name: &Text) -> Result<(), Memory>
+    ensures { OnOk result (lines.new ≡ lines.old ++ answers.line_if large name.now) }
+{
+    if large {
+        lines.extend(too_large_line(alloc, name)?.as_slice())?;
+    }
+    Ok(())
+}
+
+fn add_text(text: &mut Bytes, more: Option<Bytes>) -> Result<(), Memory>
+    ensures { OnOk result (IfSome more (λ t. text.new ≡ text.old ++ t)) }
+{
+    if let Some(more) = more {
+        text.extend(more.as_slice())?;
+    }
+    Ok(())
 }
 
 /// The trees that are printed so far, and the lines of those that are too large.
@@ -69,27 +88,22 @@ impl Trees {
         }
     }
 
-    // Adds a workflow; no tree is printed behind one that is too large.
+    // Adds a workflow. The text counts only where no tree is too large.
     fn add(&mut self, alloc: Global, document: &Document, manifest: &Manifest) -> Result<(), Memory>
         requires valid { Valid manifest.now }
         requires first { IsFirstForm manifest.now }
-        ensures large { OnOk result (self.new.large ≡ self.old.large ++ answers.line_if_large document.now manifest.now) }
-        ensures some { OnOk result (self.new.some_large ≡ (self.old.some_large || answers.is_too_large document.now manifest.now)) }
-        ensures text { OnOk result (self.new.some_large ≡ false
-            → self.new.text ≡ self.old.text ++ answers.text_of document.now manifest.now) }
+        ensures { OnOk result (inside.IsAdded document.now manifest.now self.old self.new) }
     {
-        match tree_text(alloc, document, manifest)? {
-            Some(text) => self.text.extend(text.as_slice())?,
-            None => {
-                self.large
-                    .extend(too_large_line(alloc, &manifest.name)?.as_slice())?;
-                self.some_large = true;
-            }
-        }
+        let text = tree_text(alloc, document, manifest)?;
+        let large = text.is_none();
+        add_line(alloc, &mut self.large, large, &manifest.name)?;
+        add_text(&mut self.text, text)?;
+        self.some_large = self.some_large || large;
         Ok(())
     }
 }
 
+#[tactic(auto, using(crate::proofs::Turns::turn, crate::proofs::Turns::all_added))]
 fn trees_of(alloc: Global, document: &Document) -> Result<Trees, Memory>
     requires valid { All Valid document.now.workflows }
     requires first { All IsFirstForm document.now.workflows }
