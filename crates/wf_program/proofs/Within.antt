@@ -14,7 +14,7 @@ by_test whole b = if b then Ok whole else Err TooLarge
 
 module _ (nodes : List Node) (whole : Evaluated) where
   small : (found : Evaluated) (b : Bool) → nat_le (length nodes) most_nodes ≡ b → by_test whole b ≡ Ok found → (nat_lt most_nodes (length nodes) ≡ false) × (found ≡ whole)
-  small found true is e = (le-ltb (length nodes) most_nodes (leb-true (length nodes) most_nodes is), cc)
+  small found true is e = (le-ltb most_nodes (length nodes) (leb-true (length nodes) most_nodes is), cc)
   small found false is e = absurd cc
 
   pub within_ok : (found : Evaluated) → Ok found ≡ within nodes whole → (nat_lt most_nodes (length nodes) ≡ false) × (found ≡ whole)
