@@ -4,3 +4,8 @@ mod Solving
 mod Told
 mod Suffice
 mod Rows
+mod Judged
+mod Names
+mod Seeing
+mod Ordered
+mod StepSeen

@@ -1,6 +1,6 @@
 -- What follows the tasks of a DAG that are made
 -- (Argo, "DAG" and "Enhanced depends logic"; field reference, `DAGTemplate` and `DAGTask`).
--- What a DAG means of branch phases, of `failFast` and of the moment at which `depends` is evaluated is this project's own.
+-- Branch phases, the rule of `failFast` and the moment at which `depends` is evaluated are this project's own.
 use Rattle.std.specs.Prelude.{ℕ, suc, List, [], ◌∷◌, Bool, not, ◌&&◌, false, Option, Some, None, if◌then◌else◌}
 use Rattle.std.specs.List.{list_all}
 use Rattle.depends_expr.specs.Expression.{Expression}

@@ -1,6 +1,7 @@
 //! The laws of what follows the tasks of a DAG.
 
 ghost use Rattle.dag_template.specs.Seen.{SolvedIsTold, StatesSuffice};
+ghost use Rattle.dag_template.specs.Stands.{SeenAsItStands};
 
 use growth::laws::rounds_settle;
 
@@ -18,3 +19,8 @@ pub fn states_suffice()
 {
     rounds_settle();
 }
+
+/// Each task is seen as it stands, given how the others are seen.
+pub fn seen_as_it_stands()
+    ensures { SeenAsItStands }
+{}

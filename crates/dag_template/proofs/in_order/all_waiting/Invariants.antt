@@ -1,0 +1,7 @@
+-- So many waiting tasks.
+use Rattle.std.proofs.Common.{◌≡◌, replicate}
+use Rattle.dag_template.specs.Stands.{waits}
+use Rattle.dag_template.proofs.in_order.all_waiting.Given as goal
+
+abbrev pub invariant-loop : goal.invariant-loop
+invariant-loop l = l.stands.items ≡ replicate l.counter waits
