@@ -20,9 +20,9 @@ module _ (nodes : List Node) (whole : Evaluated) where
   pub within_ok : (found : Evaluated) → Ok found ≡ within nodes whole → (nat_lt most_nodes (length nodes) ≡ false) × (found ≡ whole)
   within_ok found e = small found (nat_le (length nodes) most_nodes) refl (sym e)
 
-  large : (b : Bool) → nat_le (length nodes) most_nodes ≡ b → by_test whole b ≡ Err TooLarge → nat_lt most_nodes (length nodes) ≡ true
-  large true is e = absurd cc
-  large false is e = lt-ltb most_nodes (length nodes) (leb-false (length nodes) most_nodes is)
+  large : (refused : TreeRefused) (b : Bool) → nat_le (length nodes) most_nodes ≡ b → by_test whole b ≡ Err refused → nat_lt most_nodes (length nodes) ≡ true
+  large refused true is e = absurd cc
+  large refused false is e = lt-ltb most_nodes (length nodes) (leb-false (length nodes) most_nodes is)
 
-  pub within_err : (let r : Result Evaluated TreeRefused = Err TooLarge in r) ≡ within nodes whole → nat_lt most_nodes (length nodes) ≡ true
-  within_err e = large (nat_le (length nodes) most_nodes) refl (sym e)
+  pub within_err : (refused : TreeRefused) → (let r : Result Evaluated TreeRefused = Err refused in r) ≡ within nodes whole → nat_lt most_nodes (length nodes) ≡ true
+  within_err refused e = large refused (nat_le (length nodes) most_nodes) refl (sym e)

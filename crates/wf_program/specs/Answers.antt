@@ -76,10 +76,17 @@ answer_by mode.Run order D = if can_run order D then run_answer D else answer.No
 answer_by mode.Simulate order D = answer.NotBuilt
 answer_by mode.Generate order D = answer.NotBuilt
 
+abbrev pub item_text : ℕ → List ℕ
+item_text item = codes "argo: refused: item " ++ decimal item
+
+abbrev pub rule_text : ℕ → List ℕ
+rule_text rule = codes ", rule " ++ decimal rule
+
+abbrev pub field_text : List ℕ → List ℕ
+field_text field = codes ", " ++ printed field ++ codes "\n"
+
 abbrev pub refused_text : ℕ → ℕ → List ℕ → List ℕ
-refused_text item rule field =
-    codes "argo: refused: item " ++ decimal item ++ codes ", rule " ++ decimal rule ++ codes ", " ++ printed field
-    ++ codes "\n"
+refused_text item rule field = (item_text item ++ rule_text rule) ++ field_text field
 
 abbrev pub answer_of : Order → Found Document → Answered
 answer_of order (Ok D) = answer_by order.mode order D

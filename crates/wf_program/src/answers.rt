@@ -23,11 +23,34 @@ fn valid_text(alloc: Global, document: &Document) -> Result<Bytes, Memory>
     Ok(Bytes::from_vec(text.into_bytes()))
 }
 
+fn item_text(alloc: Global, item: u32) -> Result<Bytes, Memory>
+    ensures { IfOk result (λ text. text ≡ answers.item_text item) }
+{
+    let text = format!(in alloc; "argo: refused: item {item}")?;
+    Ok(Bytes::from_vec(text.into_bytes()))
+}
+
+fn rule_text(alloc: Global, rule: u32) -> Result<Bytes, Memory>
+    ensures { IfOk result (λ text. text ≡ answers.rule_text rule) }
+{
+    let text = format!(in alloc; ", rule {rule}")?;
+    Ok(Bytes::from_vec(text.into_bytes()))
+}
+
+fn field_text(alloc: Global, field: &FieldPath) -> Result<Bytes, Memory>
+    ensures { IfOk result (λ text. text ≡ answers.field_text field.now) }
+{
+    let text = format!(in alloc; ", {field}\n")?;
+    Ok(Bytes::from_vec(text.into_bytes()))
+}
+
 fn refused_text(alloc: Global, item: u32, rule: u32, field: &FieldPath) -> Result<Bytes, Memory>
     ensures { IfOk result (λ text. text ≡ answers.refused_text item rule field.now) }
 {
-    let text = format!(in alloc; "argo: refused: item {item}, rule {rule}, {field}\n")?;
-    Ok(Bytes::from_vec(text.into_bytes()))
+    let mut text = item_text(alloc, item)?;
+    text.extend(rule_text(alloc, rule)?.as_slice())?;
+    text.extend(field_text(alloc, field)?.as_slice())?;
+    Ok(text)
 }
 
 fn answer_by(alloc: Global, order: Order, document: &Document) -> Result<Answered, Memory>

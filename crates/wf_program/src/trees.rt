@@ -103,7 +103,7 @@ impl Trees {
     }
 }
 
-#[tactic(auto, using(crate::proofs::Turns::turn, crate::proofs::Turns::all_added))]
+#[tactic(auto, using(crate::proofs::Turns::all_added))]
 fn trees_of(alloc: Global, document: &Document) -> Result<Trees, Memory>
     requires valid { All Valid document.now.workflows }
     requires first { All IsFirstForm document.now.workflows }

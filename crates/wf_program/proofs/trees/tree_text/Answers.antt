@@ -1,4 +1,4 @@
-use Rattle.std.proofs.Common.{◌≡◌, ◌∙◌, ap, sym}
+use Rattle.std.proofs.Common.{rules, ◌≡◌, ◌∙◌, ap, sym}
 use Rattle.tree_types.specs.Texts.{tree_text}
 use Rattle.meaning.specs.Trees.{phase}
 use Rattle.meaning.specs.Plain.{planned_answers}
@@ -30,4 +30,4 @@ pub returns-in-Err-TooLarge-clause-large : goal.returns-in-Err-TooLarge-clause-l
 returns-in-Err-TooLarge-clause-large c =
     let D = c.args.document.now in
     let m = c.args.manifest.now in
-    sym (within_err (nodes_of D m) (whole D m) (c.in-Err-TooLarge.ensures (λ is. cc)))
+    sym (within_err (nodes_of D m) (whole D m) c.in-Err-TooLarge.field-0 (c.in-Err-TooLarge.ensures (λ is. search rules)))
