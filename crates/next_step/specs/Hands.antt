@@ -1,5 +1,5 @@
 -- A hand with its jobs, and the notes of its calls.
-use Rattle.std.specs.Prelude.{ℕ, zero, suc, List, [], ◌∷◌, Option, Some, None}
+use Rattle.std.specs.Prelude.{ℕ, zero, suc, List, [], Option, Some, None}
 use Rattle.tree_types.specs.declared.entry.Key.{Key}
 use Rattle.tree_types.specs.declared.entry.Entry.{Entry}
 use Rattle.law.specs.Documents.{Text}

@@ -1,5 +1,5 @@
 -- Rounds that nobody disturbs, and a run of them: each job is ended before the next begins.
-use Rattle.std.specs.Prelude.{◌≡◌, ◌⊎◌, ℕ, ◌+◌, ◌<◌, List, [], ◌∷◌, ◌++◌, length, map, filter_map, Option, Some, None}
+use Rattle.std.specs.Prelude.{◌≡◌, ◌⊎◌, ℕ, ◌+◌, ◌<◌, List, [], ◌∷◌, ◌++◌, length, filter_map, Option, Some, None}
 use Rattle.tree_types.specs.declared.fact.Fact.{Fact}
 use Rattle.tree_types.specs.declared.outcome.Outcome.{Outcome}
 use Rattle.tree_types.specs.declared.entry.Key.{Key}
@@ -7,9 +7,9 @@ use Rattle.tree_types.specs.declared.entry.Key.TheVariants as of_key
 use Rattle.tree_types.specs.declared.entry.Entry.{Entry}
 use Rattle.tree_types.specs.declared.entry.Entry.TheVariants.{Submit, Create}
 use Rattle.meaning.specs.Answers.{Facts}
-use Rattle.history.specs.History.{grown, clock_of}
+use Rattle.history.specs.History.{grown}
 use Rattle.law.specs.Documents.{Text, Document}
-use Rattle.law.specs.Contents.{Flow, PodObject, OfPod, Content, pod_in, Story, pod_of}
+use Rattle.law.specs.Contents.{Flow, PodObject, pod_in, Story, pod_of}
 use Rattle.law.specs.Due.{Matter, record_fact, IsTooLarge}
 use Rattle.next_step.specs.Views.{Seen, Views, nothing}
 use Rattle.next_step.specs.Next.{get, act, done, worker_next}

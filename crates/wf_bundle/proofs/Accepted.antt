@@ -1,5 +1,5 @@
 -- What an accepted document keeps: each of its workflows is valid.
-use Rattle.std.proofs.Common.{◌≡◌, ℕ, suc, ◌+◌, List, [], ◌∷◌, ◌++◌, Option, Some, None, true, Ok, Err, refl, sym, ap, ◌∙◌, subst, append_assoc, add-one}
+use Rattle.std.proofs.Common.{◌≡◌, ℕ, suc, ◌+◌, List, [], ◌∷◌, Option, Some, None, true, Ok, Err, refl, sym, ap, ◌∙◌, subst, append_assoc, add-one}
 use Rattle.std.specs.Prelude.{All, IsTrue}
 use Rattle.std.specs.List.{AllByRecursion, flat_map}
 use Rattle.std.proofs.lemmas.List.Elements.{All-nil, All-cons}
@@ -31,7 +31,7 @@ use Rattle.bundle_rules.specs.Names.{names_asked}
 use Rattle.bundle_rules.specs.Schedules.{schedules_asked}
 use Rattle.wf_bundle.specs.declared.parts.Parts.{Parts}
 use Rattle.wf_bundle.specs.Outcomes.{pods_differ}
-use Rattle.wf_bundle.specs.Inside.Parts.{parts_in, parts_of, joined, document_by, taken_from, taken, behind_found, accepted, made}
+use Rattle.wf_bundle.specs.Inside.Parts.{parts_in, parts_of, joined, taken_from, taken, behind_found, accepted, made}
 use Rattle.wf_bundle.proofs.Seconds.{plan_differs}
 use Rattle.wf_bundle.specs.Documents.{config_in, plan_in, commands_in, schedule_in, first_or, no_plan, values, items_from, items_of, item_checked, items_checked, limited, whole_asked, workflow_in, document, document_in}
 

@@ -1,5 +1,5 @@
 -- The items that are read so far, before what is left.
-use Rattle.std.proofs.Common.{◌≡◌, ℕ, List, ◌++◌, Ok, Err}
+use Rattle.std.proofs.Common.{List, ◌++◌, Ok, Err}
 use Rattle.item_reader.specs.declared.items.Item.{Item}
 use Rattle.bundle_rules.specs.Findings.{Found}
 

@@ -11,7 +11,7 @@ use Rattle.item_reader.specs.declared.items.Item.TheVariants as item
 use Rattle.bundle_rules.specs.declared.claims.Claim.{Claim}
 use Rattle.bundle_rules.specs.declared.claims.Claim.TheVariants as claim
 use Rattle.bundle_rules.specs.declared.claims.Spot.{Spot}
-use Rattle.bundle_rules.specs.Findings.{Found, refuse}
+use Rattle.bundle_rules.specs.Findings.{refuse}
 use Rattle.bundle_rules.specs.Claims.{same_claim, spot, pod_spots, item_spots, spots, first_second, member_at}
 use Rattle.wf_bundle.specs.Outcomes.{is_same_pod, pods_differ_from, pods_differ}
 use Rattle.wf_bundle.specs.Documents.{plan_in, first_or, no_plan}

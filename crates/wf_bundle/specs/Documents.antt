@@ -1,6 +1,6 @@
 -- Documents: a `List` of items as `kubectl get -o json` prints it, or one item. The order of the rules, and that the first
 -- refusal counts, is this project's own.
-use Rattle.std.specs.Prelude.{ℕ, suc, List, [], ◌∷◌, Bool, true, false, Option, Some, None, Ok, codes, map}
+use Rattle.std.specs.Prelude.{ℕ, suc, List, [], ◌∷◌, Bool, true, false, None, Ok, codes, map}
 use Rattle.std.specs.List.{flat_map, filter_map}
 use Rattle.serde_json.specs.Data.{Data, Items, no_items, item as value}
 use Rattle.base_types.specs.Limits.{most_list_items}

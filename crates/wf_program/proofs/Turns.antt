@@ -5,7 +5,7 @@ use Rattle.std.proofs.lemmas.List.{append-nil}
 use Rattle.wf_manifest.specs.declared.manifest.Manifest.{Manifest}
 use Rattle.wf_bundle.specs.declared.document.Document.{Document}
 use Rattle.wf_program.specs.declared.trees.Trees.{Trees}
-use Rattle.wf_program.specs.Answers.{text_of, is_too_large, line_if_large, too_large_text, trees_text}
+use Rattle.wf_program.specs.Answers.{text_of, is_too_large, line_if_large}
 use Rattle.wf_program.specs.Inside.Trees.{IsAdded, AreBefore, AreTrees}
 
 left_false : (a b c : Bool) → a ≡ (b || c) → a ≡ false → b ≡ false

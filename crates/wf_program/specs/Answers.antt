@@ -1,5 +1,5 @@
 -- What is answered to an order and a JSON value. The texts are this project's own.
-use Rattle.std.specs.Prelude.{ℕ, List, [], ◌++◌, length, nat_lt, Bool, true, false, if◌then◌else◌, Result, Ok, Err, codes, decimal}
+use Rattle.std.specs.Prelude.{ℕ, List, [], ◌++◌, length, nat_lt, Bool, true, false, if◌then◌else◌, Ok, Err, codes, decimal}
 use Rattle.std.specs.List.{list_any, flat_map}
 use Rattle.serde_json.specs.Data.{Data}
 use Rattle.base_types.specs.Limits.{most_nodes}

@@ -1,6 +1,5 @@
 use Rattle.std.proofs.Common.{◌≡◌, List, sym, ap, ◌∙◌, subst}
 use Rattle.tree_types.specs.declared.entry.Limit.{Limit}
-use Rattle.item_reader.specs.declared.items.Item.{Item}
 use Rattle.bundle_rules.specs.Findings.{Finds}
 use Rattle.bundle_rules.specs.LockLimits.{limits_of}
 use Rattle.wf_bundle.specs.Documents.{limited}

@@ -1,4 +1,4 @@
-use Rattle.std.proofs.Common.{◌≡◌, List, Result, Ok, Err, sym}
+use Rattle.std.proofs.Common.{◌≡◌, List, Result, Ok, Err}
 use Rattle.std.specs.Prelude.{All, IfOk}
 use Rattle.item_reader.specs.declared.items.Item.{Item}
 use Rattle.bundle_rules.specs.declared.refused.BundleRefused.{BundleRefused}

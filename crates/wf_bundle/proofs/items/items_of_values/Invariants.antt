@@ -1,5 +1,5 @@
 -- What is read so far, and what the values that are left read as.
-use Rattle.std.proofs.Common.{◌≡◌, ◌≤◌, drop, length}
+use Rattle.std.proofs.Common.{◌≡◌, drop, length}
 use Rattle.serde_json.specs.View.{items_view}
 use Rattle.wf_bundle.specs.Documents.{items_from}
 use Rattle.wf_bundle.proofs.Fronts.{with_front}

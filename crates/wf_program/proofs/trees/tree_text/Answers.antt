@@ -1,4 +1,4 @@
-use Rattle.std.proofs.Common.{rules, ◌≡◌, ◌∙◌, ap, sym}
+use Rattle.std.proofs.Common.{rules, ◌∙◌, ap, sym}
 use Rattle.tree_types.specs.Texts.{tree_text}
 use Rattle.meaning.specs.Trees.{phase}
 use Rattle.meaning.specs.Plain.{planned_answers}

@@ -1,4 +1,4 @@
-use Rattle.std.proofs.Common.{rules, ◌≡◌, ◌<◌, ◌∙◌, length, get_or, ap, sym}
+use Rattle.std.proofs.Common.{rules, ◌<◌, ◌∙◌, length, get_or, ap, sym}
 use Rattle.wf_program.proofs.Turns.{turn}
 use Rattle.wf_program.proofs.trees.trees_of.Goals as goal
 
