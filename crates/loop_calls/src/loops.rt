@@ -7,7 +7,7 @@ ghost use Rattle.fanout.specs.Items.{is_whole};
 use base_types::Text;
 use calls::repeated;
 use fanout::{Items, add_item_tags, item_text, items, name_text};
-use scopes::{Scope, same_values, subst};
+use scopes::{Scope, Tags, same_values, subst};
 use serde_json::Value;
 use std::alloc::Global;
 use std::test::Fail;
@@ -40,26 +40,32 @@ fn said(alloc: Global, text: &str, scope: &Scope) -> Result<String, Fail> {
     })
 }
 
-/// Each tag is replaced once, and of two values of a tag the later counts.
+/// Each tag is replaced once, and of two values of a tag the later counts; tags of scopes around have their values too.
 #[test]
 fn gives_tags_their_values(rt: HostRuntime) -> Result<(), Fail> {
     let alloc = rt.alloc();
-    let mut scope = scope(alloc)?;
-    scope.add(
+    let mut outer = Tags::new(alloc);
+    outer.add(
         Text::from_text(alloc, "item")?,
         Text::from_text(alloc, "0")?,
     )?;
-    scope.add(
+    outer.add(
         Text::from_text(alloc, "item")?,
+        Text::from_text(alloc, "1")?,
+    )?;
+    let mut inner = Tags::new(alloc);
+    inner.add(
+        Text::from_text(alloc, "item.k")?,
         Text::from_text(alloc, "{{item}}")?,
     )?;
+    let scope = scope(alloc)?.with(outer)?.with(inner)?;
     for (text, expected) in [
         ("a", "a"),
         ("", ""),
         ("<{{workflow.name}}>{{ workflow.parameters.p }}", "<w>1"),
         ("{{inputs.parameters.i}}{{inputs.parameters.i}}", "x yx y"),
         ("{{workflow.parameters.l}}", r#"["{{workflow.name}}",2]"#),
-        ("{{item}}", "{{item}}"),
+        ("{{item}}{{item.k}}", "1{{item}}"),
         (
             "{{workflow.parameters.i}}",
             "the tag workflow.parameters.i has no value",
@@ -282,13 +288,14 @@ fn only_item(items: &Items) -> Option<&Json>
 }
 
 /// What an item is in texts, in names, and in a text with its tags.
-fn told_item(alloc: Global, item: &Json, mut scope: Scope, text: &str) -> Result<String, Fail>
+fn told_item(alloc: Global, item: &Json, around: &Scope, text: &str) -> Result<String, Fail>
     requires { IsTrue (is_whole item.now) }
 {
     let own = item_text(alloc, item)?;
     let name = name_text(alloc, item)?;
-    add_item_tags(alloc, &mut scope, item)?;
-    let said = said(alloc, text, &scope)?;
+    let mut tags = Tags::new(alloc);
+    add_item_tags(alloc, &mut tags, item)?;
+    let said = said(alloc, text, &around.with(tags)?)?;
     Ok(format!(in alloc; "{own} {name} {said}")?)
 }
 
@@ -299,7 +306,7 @@ fn item_shown(alloc: Global, list: &str, text: &str) -> Result<String, Fail> {
     let items = items(alloc, &each, &scope)?;
     match only_item(&items) {
         None => Ok(String::from_str(alloc, "none")?),
-        Some(item) => told_item(alloc, item, scope, text),
+        Some(item) => told_item(alloc, item, &scope, text),
     }
 }
 

@@ -1,5 +1,5 @@
 -- Values in scopes, as a map keeps them.
-use Rattle.std.proofs.Common.{◌≡◌, ℕ, zero, suc, ◌+◌, Bool, true, false, cond, List, [], ◌∷◌, ◌++◌, drop, Option, Some, None, MatchOption, String, string_bytes, Bor, refl, sym, ap, ◌∙◌, inl, inr, arith}
+use Rattle.std.proofs.Common.{◌≡◌, ℕ, zero, suc, ◌+◌, Bool, true, false, cond, List, [], ◌∷◌, ◌++◌, drop, Option, Some, None, MatchOption, Result, Ok, Err, IfOk, String, string_bytes, Bor, refl, sym, ap, ◌∙◌, inl, inr, arith}
 use Rattle.std.specs.Prelude.{bytes_eq, codes, slice_get, if◌then◌else◌}
 use Rattle.std.specs.Option.{option_copied}
 use Rattle.std.specs.Map.{lookup}
@@ -104,16 +104,50 @@ given_more prefix params left param tag value old new before at tag_is value_is 
     ∙ ap (λ v. value_in ((prefix ++ param.name, v) ∷ rest) q) value_is
     ∙ ap (λ ps. value_in (parameter_tags prefix ps ++ before) q) (sym (drop_place params left param at))
 
--- a new scope, made step by step
-pub made : (workflow name value : List ℕ) (params inputs : List Param) (first second third none : Scope) → none ≡ [] → HasValuesOf first (parameter_tags (codes "workflow.parameters.") params ++ none)
-    → name ≡ codes "workflow.name" → value ≡ workflow → HasValuesOf second ((name, value) ∷ first) → HasValuesOf third (input_tags inputs ++ second)
-    → HasValuesOf third (input_tags inputs ++ workflow_tags workflow params)
-made workflow name value params inputs first second third none empty one name_is value_is two three q =
-    let front = input_tags inputs in
+-- parameters' tags put into no tags
+pub from_none : (front given none : Scope) → none ≡ [] → HasValuesOf given (front ++ none) → HasValuesOf given front
+from_none front given none empty one q = one q ∙ ap (λ (s : Scope). value_in (front ++ s) q) empty ∙ ap (λ (s : Scope). value_in s q) (append-nil front)
+
+-- a workflow's tags, made step by step
+pub workflow_made : (workflow name value : List ℕ) (params : List Param) (first second none : Scope) → none ≡ [] → HasValuesOf first (parameter_tags (codes "workflow.parameters.") params ++ none)
+    → name ≡ codes "workflow.name" → value ≡ workflow → HasValuesOf second ((name, value) ∷ first)
+    → HasValuesOf second (workflow_tags workflow params)
+workflow_made workflow name value params first second none empty one name_is value_is two q =
     let rest = parameter_tags (codes "workflow.parameters.") params in
-    let first_is : rest ++ none ≡ rest = ap (λ (s : Scope). rest ++ s) empty ∙ append-nil rest in
-    three q
-    ∙ append_alike front second ((name, value) ∷ first) two q
-    ∙ append_alike front ((name, value) ∷ first) ((name, value) ∷ rest) (cons_alike name value first rest (λ t. one t ∙ ap (λ (s : Scope). value_in s t) first_is)) q
-    ∙ ap (λ (t : List ℕ). value_in (front ++ ((t, value) ∷ rest)) q) name_is
-    ∙ ap (λ (v : List ℕ). value_in (front ++ ((codes "workflow.name", v) ∷ rest)) q) value_is
+    two q
+    ∙ cons_alike name value first rest (from_none rest first none empty one) q
+    ∙ ap (λ (t : List ℕ). value_in ((t, value) ∷ rest) q) name_is
+    ∙ ap (λ (v : List ℕ). value_in ((codes "workflow.name", v) ∷ rest) q) value_is
+
+-- a value in two lists of tags, one behind the other
+abbrev one_or : Option (List ℕ) → Option (List ℕ) → Option (List ℕ)
+one_or (Some v) rest = Some v
+one_or None rest = rest
+
+if_one : (b : Bool) (v : List ℕ) (x y : Option (List ℕ)) → (if b then Some v else one_or x y) ≡ one_or (if b then Some v else x) y
+if_one true v x y = refl
+if_one false v x y = refl
+
+value_in_both : (front back : Scope) (tag : List ℕ) → value_in (front ++ back) tag ≡ one_or (value_in front tag) (value_in back tag)
+value_in_both [] back tag = refl
+value_in_both (e ∷ front) back tag =
+    ap (λ o. if bytes_eq e.0 tag then Some e.1 else o) (value_in_both front back tag) ∙ if_one (bytes_eq e.0 tag) e.1 (value_in front tag) (value_in back tag)
+
+-- tags over those of a scope
+pub over_alike : (front back tags scope : Scope) → HasValuesOf tags front → HasValuesOf scope back → HasValuesOf (tags ++ scope) (front ++ back)
+over_alike front back tags scope one two q =
+    value_in_both tags scope q
+    ∙ ap (λ o. one_or o (value_in scope q)) (one q)
+    ∙ ap (λ o. one_or (value_in front q) o) (two q)
+    ∙ sym (value_in_both front back q)
+
+-- a value in tags, and behind them in those around
+pub in_tags : (front back : Scope) (tag value : List ℕ) → value_in front tag ≡ Some value → value_in (front ++ back) tag ≡ Some value
+in_tags front back tag value here = value_in_both front back tag ∙ ap (λ o. one_or o (value_in back tag)) here
+
+pub behind_tags : (front back : Scope) (tag : List ℕ) → value_in front tag ≡ None → value_in (front ++ back) tag ≡ value_in back tag
+behind_tags front back tag none = value_in_both front back tag ∙ ap (λ o. one_or o (value_in back tag)) none
+
+pub made : {E : Type 0} (r : Result Scope E) (tags scope front back : Scope) → IfOk r (λ s. s ≡ tags ++ scope) → HasValuesOf tags front → HasValuesOf scope back → IfOk r (λ s. HasValuesOf s (front ++ back))
+made (Ok s) tags scope front back is one two = λ q. ap (λ (x : Scope). value_in x q) is ∙ over_alike front back tags scope one two q
+made (Err e) tags scope front back is one two = is

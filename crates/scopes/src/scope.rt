@@ -1,16 +1,45 @@
-//! The values of tags.
+//! Scopes: tags and their values, over those of the scopes around.
 
-use base_types::{Memory, Text, TryCopy};
-use indexmap::IndexMap;
+ghost use Rattle.std.specs.Prelude.{◌≡◌};
+
+use crate::Tags;
+use base_types::{Memory, Text};
 use std::alloc::Global;
 use std::marker::Model;
+use std::sync::Arc;
 use tree_types::Params;
 
-/// The values of tags, which contracts see as a list of tags and values, of which the first of a tag counts.
+// Tags and their values, over those of the layers below. A layer that several scopes stand on is shared.
+#[derive(Debug, Drop)]
+struct Layer {
+    tags: Tags,
+    outer: Option<Arc<Layer>>,
+}
+
+impl Model for Layer {
+    ghost use Rattle.std.specs.Prelude.{◌++◌, suc};
+    ghost use Rattle.scopes.specs.Inside.Layers.{Layered, outer_tags, outer_height};
+
+    ghost Value = { Layered };
+
+    ghost view = { λ a. record {
+      tags = a.tags ++ outer_tags a.outer;
+      height = suc (outer_height a.outer);
+    } };
+
+    ghost size = { λ v. v.height };
+
+    ghost use Rattle.scopes.specs.Inside.Lower.{outer_is_lower};
+
+    ghost size_decreases = { λ a h. outer_is_lower a };
+}
+
+/// The values of tags, which contracts see as a list of tags and values, of which the first of a tag counts. What stands in
+/// the scopes around is shared and not copied.
 #[derive(Debug, Drop)]
 pub struct Scope {
     alloc: Global,
-    tags: IndexMap<String, Text>,
+    layer: Arc<Layer>,
 }
 
 impl Model for Scope {
@@ -18,15 +47,25 @@ impl Model for Scope {
 
     ghost Value = { List (List ℕ × List ℕ) };
 
-    ghost use Rattle.scopes.specs.Inside.Entries.{shown};
-
-    ghost view = { λ scope. shown scope.tags.entries };
+    ghost view = { λ a. a.layer.value.tags };
 }
 
 impl Scope {
-    ghost use Rattle.std.specs.Prelude.{◌≡◌, ◌∷◌, ◌++◌, [], MatchOption, Some, None, IfOk, OnOk, OnErr};
-    ghost use Rattle.scopes.specs.Substitution.{value_in, parameter_tags, workflow_tags, input_tags};
+    ghost use Rattle.std.specs.Prelude.{◌++◌, MatchOption, Some, None, IfOk};
+    ghost use Rattle.scopes.specs.Substitution.{value_in, workflow_tags, input_tags};
     ghost use Rattle.scopes.specs.Values.{HasValuesOf};
+
+    /// The scope of tags alone.
+    pub fn of(tags: Tags) -> Result<Scope, Memory>
+        ensures { IfOk result (λ scope. scope ≡ tags) }
+    {
+        let alloc = tags.allocator();
+        let layer = Layer { tags, outer: None };
+        Ok(Scope {
+            alloc,
+            layer: Arc::new(alloc, layer)?,
+        })
+    }
 
     /// The scope of a workflow's tags, and of the inputs of one of its templates.
     pub fn new(
@@ -38,38 +77,33 @@ impl Scope {
         ensures { IfOk result (λ scope.
             HasValuesOf scope (input_tags inputs.now ++ workflow_tags workflow.now params.now)) }
     {
-        let mut scope = Scope {
-            alloc,
-            tags: IndexMap::new(alloc),
+        Scope::of(Tags::of_workflow(alloc, workflow, params)?)?.with(Tags::of_inputs(
+            alloc, inputs,
+        )?)
+    }
+
+    /// This scope once more.
+    pub fn share(&self) -> Result<Scope, Memory>
+        ensures { IfOk result (λ scope. scope ≡ self.now) }
+    {
+        Ok(Scope {
+            alloc: self.alloc,
+            layer: self.layer.clone()?,
+        })
+    }
+
+    /// A scope inside this one, in which these tags have these values.
+    pub fn with(&self, tags: Tags) -> Result<Scope, Memory>
+        ensures { IfOk result (λ scope. scope ≡ tags ++ self.now) }
+    {
+        let layer = Layer {
+            tags,
+            outer: Some(self.layer.clone()?),
         };
-        scope.add_parameters("workflow.parameters.", params)?;
-        scope.add(Text::from_text(alloc, "workflow.name")?, workflow.copy()?)?;
-        scope.add_parameters("inputs.parameters.", inputs)?;
-        Ok(scope)
-    }
-
-    /// Gives a tag a value, which counts from now on.
-    pub fn add(&mut self, tag: Text, value: Text) -> Result<(), Memory>
-        ensures ok { OnOk result (HasValuesOf self.new ((tag, value) ∷ self.old)) }
-        ensures err { OnErr result (self.new ≡ self.old) }
-    {
-        self.tags.insert(tag.into_string(), value)?;
-        Ok(())
-    }
-
-    // Gives the parameters' tags their values. Of two parameters of one name the first counts.
-    fn add_parameters(&mut self, prefix: &str, params: &Params) -> Result<(), Memory>
-        ensures { OnOk result (HasValuesOf self.new (parameter_tags prefix.now params.now ++ self.old)) }
-    {
-        let mut left = params.len();
-        while left > 0 {
-            left -= 1;
-            let param = params.get(left);
-            let mut tag = Text::from_text(self.alloc, prefix)?;
-            tag.push(param.name.as_str())?;
-            self.add(tag, param.value.copy()?)?;
-        }
-        Ok(())
+        Ok(Scope {
+            alloc: self.alloc,
+            layer: Arc::new(self.alloc, layer)?,
+        })
     }
 
     // The value of a tag.
@@ -78,10 +112,29 @@ impl Scope {
             (value_in self.now tag.now ≡ None)
             (λ value. value_in self.now tag.now ≡ Some value.now) }
     {
-        self.tags.get(tag)
+        self.layer.value_of(tag)
     }
 
     pub(crate) fn allocator(&self) -> Global {
         self.alloc
+    }
+}
+
+impl Layer {
+    ghost use Rattle.std.specs.Prelude.{MatchOption, Some, None};
+    ghost use Rattle.scopes.specs.Substitution.{value_in};
+
+    fn value_of(&self, tag: &str) -> Option<&Text>
+        ensures { MatchOption result
+            (value_in self.now.tags tag.now ≡ None)
+            (λ value. value_in self.now.tags tag.now ≡ Some value.now) }
+    {
+        if let Some(value) = self.tags.value_of(tag) {
+            return Some(value);
+        }
+        match &self.outer {
+            None => None,
+            Some(outer) => outer.value_of(tag),
+        }
     }
 }

@@ -17,8 +17,8 @@ add_members-requires c =
 
 pub returns-in_err-add_members-clause-err : goal.returns-in_err-add_members-clause-err
 returns-in_err-add_members-clause-err c =
-    let old = c.args.scope.now in
-    let new = c.add_members.new.scope in
+    let old = c.args.tags.now in
+    let new = c.add_members.new.tags in
     let members = members_view c.in-Some.members.now.entries in
     let either = of_map new old (view c.value.result.now) members (sym c.in-Some.ensures) c.in_err-add_members.ensures.err in
     on_err c.from_residual.result (HasValuesOfEither new old (item_tags c.args.item.now ++ old))
@@ -26,9 +26,9 @@ returns-in_err-add_members-clause-err c =
 
 pub returns-clause-err : goal.returns-clause-err
 returns-clause-err c =
-    let old = c.args.scope.now in
-    let before = c.add_members.new.scope in
-    let new = c.add_item-2.new.scope in
+    let old = c.args.tags.now in
+    let before = c.add_members.new.tags in
+    let new = c.add_item-2.new.tags in
     let value = view c.value.result.now in
     let members = members_view c.in-Some.members.now.entries in
     let either = of_map before old value members (sym c.in-Some.ensures) (only_later before old (member_tags members ++ old) c.in_ok-add_members.ensures.ok) in

@@ -10,8 +10,8 @@ use Rattle.fanout.proofs.tags.add_members.Given as goal
 
 abbrev pub invariant-loop-key : goal.invariant-loop-key
 invariant-loop-key l = record {
-  given : HasValuesOf (with_members l.scope (members_view l.key-iterator)) (with_members l.fn.scope (members_view l.members.entries));
+  given : HasValuesOf (with_members l.tags (members_view l.key-iterator)) (with_members l.fn.tags (members_view l.members.entries));
   sorted : IsStrictlySortedBy string_cmp (keys_of l.key-iterator);
-  between : HasValuesOfEither l.scope l.fn.scope (with_members l.fn.scope (members_view l.members.entries));
+  between : HasValuesOfEither l.tags l.fn.tags (with_members l.fn.tags (members_view l.members.entries));
   whole : members_are_whole (members_view l.key-iterator) ≡ true;
 }

@@ -1,9 +1,12 @@
-use Rattle.std.proofs.Common.{ap}
-use Rattle.scopes.specs.Inside.Entries.{shown}
-use Rattle.scopes.proofs.ValueIn.{made}
+use Rattle.std.proofs.Common.{sym, subst}
+use Rattle.scopes.specs.Substitution.{Scope, input_tags, workflow_tags}
+use Rattle.scopes.specs.Values.{HasValuesOf}
+use Rattle.scopes.proofs.ValueIn.{over_alike, made}
 use Rattle.scopes.proofs.scope.Scope.new.Goals as goal
 
 pub returns : goal.returns
 returns c =
-    made c.args.workflow.now c.in_ok-from_text.field-0 c.in_ok-copy.field-0 c.args.params.now c.args.inputs.now c.add_parameters.new.self c.add.new.self c.add_parameters-2.new.self (shown c.new.result.entries)
-    (ap shown c.new.ensures.empty) c.in_ok-add_parameters.ensures c.in_ok-from_text.ensures c.in_ok-copy.ensures c.in_ok-add.ensures.ok c.in_ok-add_parameters-2.ensures
+    let front = input_tags c.args.inputs.now in
+    let back = workflow_tags c.args.workflow.now c.args.params.now in
+    let around = subst (λ (s : Scope). HasValuesOf s back) (sym c.in_ok-of.ensures) c.in_ok-of_workflow.ensures in
+    made c.with-2.result c.in_ok-of_inputs.field-0 c.in_ok-of.field-0 front back c.with-2.ensures c.in_ok-of_inputs.ensures around

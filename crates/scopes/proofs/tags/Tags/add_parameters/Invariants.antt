@@ -1,7 +1,7 @@
 use Rattle.std.proofs.Common.{◌≤◌, ◌++◌, length, drop}
 use Rattle.scopes.specs.Substitution.{parameter_tags}
 use Rattle.scopes.specs.Values.{HasValuesOf}
-use Rattle.scopes.proofs.scope.Scope.add_parameters.Given as goal
+use Rattle.scopes.proofs.tags.Tags.add_parameters.Given as goal
 
 -- the last parameters have their values
 abbrev pub invariant-loop-left : goal.invariant-loop-left

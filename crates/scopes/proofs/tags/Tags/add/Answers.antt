@@ -2,7 +2,7 @@ use Rattle.std.proofs.Common.{◌∙◌, ◌∷◌, ap, refl}
 use Rattle.scopes.specs.Inside.Entries.{shown}
 use Rattle.scopes.specs.Substitution.{value_in}
 use Rattle.scopes.proofs.ValueIn.{inserted}
-use Rattle.scopes.proofs.scope.Scope.add.Goals as goal
+use Rattle.scopes.proofs.tags.Tags.add.Goals as goal
 
 pub returns-clause-ok : goal.returns-clause-ok
 returns-clause-ok c = λ q.

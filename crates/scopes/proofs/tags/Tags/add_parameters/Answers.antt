@@ -2,7 +2,7 @@ use Rattle.std.proofs.Common.{string_bytes, ◌≡◌, ◌∙◌, ◌+◌, ◌-�
 use Rattle.scopes.specs.Substitution.{parameter_tags}
 use Rattle.scopes.specs.Values.{HasValuesOf}
 use Rattle.scopes.proofs.ValueIn.{given_more}
-use Rattle.scopes.proofs.scope.Scope.add_parameters.Goals as goal
+use Rattle.scopes.proofs.tags.Tags.add_parameters.Goals as goal
 
 pub loop-left-preserved : goal.loop-left-preserved
 loop-left-preserved c =
