@@ -1,0 +1,3 @@
+pub mod DeclByDecl
+pub mod Gathered
+pub mod ItemName

@@ -1,0 +1,9 @@
+pub mod Endings
+pub mod Inside
+pub use Rattle.meaning.specs.Lines
+pub use Rattle.meaning.specs.Outputs
+pub use Rattle.meaning.specs.Pods
+pub use Rattle.meaning.specs.Steps
+pub use Rattle.meaning.specs.Dags
+pub use Rattle.meaning.specs.Calls
+pub use Rattle.scopes.specs.Values

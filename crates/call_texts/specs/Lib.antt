@@ -1,0 +1,9 @@
+pub mod Told
+pub mod Inside
+pub use Rattle.scopes.specs.Substitution
+pub use Rattle.scopes.specs.Values
+pub use Rattle.fanout.specs.Items
+pub use Rattle.fanout.specs.ItemTexts
+pub use Rattle.meaning.specs.Calls
+pub use Rattle.meaning.specs.Suspends
+pub use Rattle.meaning.specs.Trees
