@@ -2,7 +2,7 @@
 
 ghost use Rattle.std.specs.Prelude.{◌≡◌, ◌≤◌, ◌<◌, ◌^◌, length};
 ghost use Rattle.meaning.specs.Pods as pods;
-ghost use Rattle.retry_policy.specs.Attempts.{next, tried_again, starts_at};
+ghost use Rattle.retry_policy.specs.Attempts.{next, next_by, tried_again, starts_at};
 
 use base_types::limits::MOST_ATTEMPTS;
 use time_text::backoff_delay;
@@ -39,9 +39,17 @@ pub fn next_attempt(retry: &Retry, tried: &[Tried], due: bool) -> AttemptStep
     if k == 0 {
         return AttemptStep::Now { k: 0 };
     }
-    let (first, last) = (&tried[0], &tried[k - 1]);
+    step_after(retry, &tried[0], &tried[k - 1], k as u32, due)
+}
+
+/// What follows `k` attempts, of which these are the first and the last; the last has ended. `due` says whether the timer of
+/// attempt `k` was due.
+pub fn step_after(retry: &Retry, first: &Tried, last: &Tried, k: u32, due: bool) -> AttemptStep
+    requires { 1 ≤ k }
+    ensures { result ≡ next_by retry.now first.now last.now k due }
+{
     if k as u64 <= further(retry) && is_tried_again(retry, first, last) {
-        starts_at(retry.backoff, last.finish, k as u32, due)
+        starts_at(retry.backoff, last.finish, k, due)
     } else {
         AttemptStep::Over
     }

@@ -3,4 +3,4 @@
 
 mod attempts;
 
-pub use attempts::{AttemptStep, Tried, next_attempt};
+pub use attempts::{AttemptStep, Tried, next_attempt, step_after};

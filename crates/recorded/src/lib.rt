@@ -1,0 +1,11 @@
+//! What is recorded of a workflow, as an evaluator of its tree asks for it.
+#![tactic(auto)]
+
+mod ended;
+mod journal;
+mod marks;
+mod recorded;
+
+pub use ended::Ended;
+pub use journal::JournalIndex;
+pub use recorded::{MemoAnswer, Recorded};

@@ -1,0 +1,18 @@
+use Rattle.std.proofs.Common.{◌≡◌, [], ◌∷◌, Some, None, Bool, ap, ◌∙◌}
+use Rattle.meaning.specs.Lines.{Parts, Made, row_of, then_parts}
+use Rattle.meaning.specs.Calls.{then_hook}
+use Rattle.tree_state.specs.Inside.Kids.{parts_of}
+use Rattle.tree_state.proofs.Kids.{pushed}
+use Rattle.tree_state.proofs.state.State.add_hook.Goals as goal
+
+pub returns : goal.returns
+returns c =
+    let old = c.self.inside in
+    let kids =
+    ap parts_of c.in_ok-push.ensures.items
+    ∙ pushed old.kids.items (record { line = None; state = Some c.in_ok-new.field-0 })
+    ∙ ap (λ (m : Made). then_parts (parts_of old.kids.items) (row_of (m ∷ []))) c.in_ok-new.ensures.ok in
+    let done : c.hook.inside.finished ≡ c.args.hook.own.finished = ap (λ (m : Made). m.own.finished) c.hook.view_is in
+    ap (λ (p : Parts). record { own = record { node = old.node; wants = old.wants; finished = c.hook.inside.finished; any_succeeded = old.any_succeeded; all_failed = old.all_failed }; parts = p }) kids
+    ∙ ap (λ (b : Bool). record { own = record { node = old.node; wants = old.wants; finished = b; any_succeeded = old.any_succeeded; all_failed = old.all_failed }; parts = then_parts (parts_of old.kids.items) (row_of (c.args.hook ∷ [])) }) done
+    ∙ ap (λ (m : Made). then_hook m c.args.hook) c.self.view_is

@@ -1,0 +1,34 @@
+-- What stands below a node is smaller than the whole.
+use Rattle.std.proofs.Common.{suc, ◌≤◌, List, [], ◌∷◌, Option, Some, None, arith}
+use denote.Param.Weighed.{most}
+use Rattle.std.specs.declared.sync.Arc.{Arc}
+use Rattle.std.specs.declared.alloc.Global.{Global}
+use Rattle.meaning.specs.Lines.{Parts, Made}
+use Rattle.tree_state.specs.declared.state.Line.{Line}
+use Rattle.tree_state.specs.declared.state.Line.TheVariants.{MayBegin, Asks}
+use Rattle.tree_state.specs.declared.state.Kid.{Kid}
+use Rattle.tree_state.specs.declared.state.State.TheDeep.{deep-Kid}
+use Rattle.tree_state.specs.Counting.{count_below}
+use Rattle.tree_state.specs.Inside.Kids.{line_then, state_then, parts_of}
+
+kid_lower : (l : Option Line) (s : Option (Arc Made Global)) (more : Parts) →
+    deep-Kid (record { line = l; state = s }) ≤ suc (count_below (line_then l (state_then s more)))
+kid_lower None None more = omega arith
+kid_lower None (Some s) more = omega arith
+kid_lower (Some (MayBegin p)) None more = omega arith
+kid_lower (Some (MayBegin p)) (Some s) more = omega arith
+kid_lower (Some (Asks w)) None more = omega arith
+kid_lower (Some (Asks w)) (Some s) more = omega arith
+
+rest_lower : (l : Option Line) (s : Option (Arc Made Global)) (more : Parts) → count_below more ≤ count_below (line_then l (state_then s more))
+rest_lower None None more = omega arith
+rest_lower None (Some s) more = omega arith
+rest_lower (Some (MayBegin p)) None more = omega arith
+rest_lower (Some (MayBegin p)) (Some s) more = omega arith
+rest_lower (Some (Asks w)) None more = omega arith
+rest_lower (Some (Asks w)) (Some s) more = omega arith
+
+pub kids_are_lower : (kids : List Kid) → most (λ k. deep-Kid k) kids ≤ suc (count_below (parts_of kids))
+kids_are_lower [] = omega arith
+kids_are_lower (k ∷ ks) =
+    omega (arith, kid_lower k.line k.state (parts_of ks), rest_lower k.line k.state (parts_of ks), kids_are_lower ks)

@@ -1,0 +1,16 @@
+//! What a call makes, kept as a tree of shared parts: its node, what it asks for, and what stands below it.
+#![tactic(auto)]
+
+mod below;
+mod law;
+mod refused;
+mod room;
+mod state;
+mod told;
+
+pub use below::Below;
+pub use law::counts_nodes;
+pub use refused::TreeRefused;
+pub use room::Room;
+pub use state::State;
+pub use told::Told;
