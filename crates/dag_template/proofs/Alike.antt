@@ -16,7 +16,7 @@ use Rattle.meaning.specs.Dags.{Names, awaited, is_meant, Standing, waiting, read
 use Rattle.dag_template.specs.declared.states.TaskState.{TaskState}
 use Rattle.dag_template.specs.States.{state_of, phase_of, stated, nowhere, as_stated, as_begun}
 use Rattle.dag_template.specs.Seen.{seen}
-use Rattle.dag_template.proofs.Waiting.{Each, each_left, each_right}
+use Rattle.dag_template.proofs.Awaiting.{Each, each_left, each_right}
 
 -- others see two standings alike
 pub record Alike (x y : Standing) : Type 0 where

@@ -1,11 +1,11 @@
-mod Waiting
+pub mod Awaiting
 mod Alike
-mod Solving
+pub mod Solving
 mod Told
 mod Suffice
 mod Rows
 mod Judged
-mod Names
-mod Seeing
-mod Ordered
-mod StepSeen
+pub mod Places
+pub mod Seeing
+pub mod Ordered
+pub mod StepSeen

@@ -20,8 +20,9 @@ use Rattle.dag_template.specs.declared.stands.Stand.{Stand}
 use Rattle.dag_template.specs.States.{state_of, nowhere, as_stated, as_begun}
 use Rattle.dag_template.specs.Step.{stand}
 use Rattle.dag_template.specs.Stands.{sight, waits, stand_of, Sight, verdict_by, are_met, verdict_waiting, verdict, stand_by, stand_if}
-use Rattle.dag_template.specs.Order.{first, IsOrder, sights}
-use Rattle.dag_template.proofs.Waiting.{Each, each_map, each_left, each_right}
+use Rattle.dag_plan.specs.Order.{first, IsOrder}
+use Rattle.dag_template.specs.Order.{sights}
+use Rattle.dag_template.proofs.Awaiting.{Each, each_map, each_left, each_right}
 use Rattle.dag_template.proofs.Solving.{solve}
 use Rattle.dag_template.proofs.Seeing.{seen_as_it_stands}
 
@@ -71,7 +72,7 @@ module _ (ts : List Task) (f g : Sight) where
   waiting_same None (Some ns) h = λ i. verdict_by (maps_same ns h i) (are_met ts ns (maps_same ns h i))
   waiting_same None None h = refl
 
-  verdicts_same : (t : Task) → Each (λ n. f n ≡ g n) (waits_for t) → verdict ts f t ≡ verdict ts g t
+  pub verdicts_same : (t : Task) → Each (λ n. f n ≡ g n) (waits_for t) → verdict ts f t ≡ verdict ts g t
   verdicts_same t h = waiting_same t.depends t.dependencies h
 
 stands_same :
@@ -231,3 +232,8 @@ pub meant_at :
 meant_at f [] p t e = absurd cc
 meant_at f (u ∷ ts) zero t e = let same : u ≡ t = cc e in ap f same
 meant_at f (u ∷ ts) (suc p) t e = meant_at f ts p t e
+
+pub task_at : (ts : List Task) (p : ℕ) → p < length ts → (t : Task) × (slice_get ts p ≡ Some t)
+task_at [] p low = absurd (omega (arith, low))
+task_at (t ∷ ts) zero low = (t, refl)
+task_at (t ∷ ts) (suc p) low = task_at ts p (omega (arith, low))

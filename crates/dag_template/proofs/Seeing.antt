@@ -11,15 +11,19 @@ use Rattle.wf_manifest.specs.declared.calls.ContinueOn.{ContinueOn}
 use Rattle.wf_manifest.specs.declared.calls.Task.{Task}
 use Rattle.wf_manifest.specs.declared.calls.Dag.{Dag}
 use Rattle.scopes.specs.Substitution.{Scope}
-use Rattle.meaning.specs.Steps.{covers_failed, covers_error}
-use Rattle.meaning.specs.Dags.{Names, task_named, or_covered, dependency_by, dependency, and_all, all_dependencies, awaited_by, is_meant, is_over, result_of, branch_of, worst_branch, tags_before, Look, free_by, free, decided_by, waits_by, meant, meant_by}
+use Rattle.meaning.specs.declared.lines.Place.{Place}
+use Rattle.meaning.specs.Answers.{Answers}
+use Rattle.meaning.specs.Steps.{Caller, covers_failed, covers_error}
+use Rattle.meaning.specs.Dags.{Names, task_named, or_covered, dependency_by, dependency, and_all, all_dependencies, awaited_by, named_by, parents, is_meant, Standing, is_over, result_of, branch_of, worst_branch, tags_before, Look, free_by, decided_by, waits_by, meant, meant_by}
 use Rattle.dag_template.specs.declared.states.TaskState.{TaskState}
 use Rattle.dag_template.specs.declared.stands.Stand.{Stand}
 use Rattle.dag_template.specs.declared.judging.Verdict.{Verdict}
 use Rattle.dag_template.specs.declared.judging.Verdict.TheVariants.{Waits, Holds, Denied}
 use Rattle.dag_template.specs.States.{state_of, nowhere, as_stated, as_begun}
-use Rattle.dag_template.specs.Stands.{sight, Sight, verdict_by, covers, covers_of, is_met, are_met, verdict_listed, verdict_waiting, freed, stand_by, stand_if, SeenAsItStands}
-use Rattle.dag_template.proofs.Names.{Same, same_append, once, same_all, same_worst}
+use Rattle.dag_template.specs.Stands.{sight, Sight, verdict_by, covers, covers_of, is_met, are_met, verdict_listed, verdict_waiting, verdict, freed, stand_by, stand_if, SeenAsItStands}
+use Rattle.dag_template.specs.Verdicts.{stands_as, stands_if, stands_by, StandsByVerdict}
+use Rattle.dag_plan.proofs.Parents.{same_dependency}
+use Rattle.dag_plan.proofs.Names.{Same, same_append, once, same_all, same_worst}
 
 -- ---- dependencies
 
@@ -61,24 +65,6 @@ module _ (res : List ℕ → TaskResult) (n : List ℕ) where
   dependency_true : (ts : List Task) → truth res (dependency ts n) ≡ is_met (covers_of ts n) (res n)
   dependency_true ts =
       dependency_true_by (task_named ts n) ∙ ap (λ (on : ContinueOn). is_met on (res n)) (sym (covers_named ts n))
-
-again : (a : Bool) → (a || (a || false)) ≡ (a || false)
-again true = refl
-again false = refl
-
-and_again : (a : Bool) → (a || (a || (a || false))) ≡ (a || false)
-and_again true = refl
-and_again false = refl
-
-same_covered : (n : List ℕ) (cf ce : Bool) → Same (named (or_covered ce n errored (or_covered cf n failed (bare n)))) (n ∷ [])
-same_covered n true true q = and_again (q n)
-same_covered n true false q = again (q n)
-same_covered n false true q = again (q n)
-same_covered n false false q = refl
-
-same_dependency : (n : List ℕ) (o : Option Task) → Same (named (dependency_by n o)) (n ∷ [])
-same_dependency n None q = refl
-same_dependency n (Some t) q = same_covered n (covers_failed t.call.continue_on) (covers_error t.call.continue_on) q
 
 -- what is awaited says what these dependencies say
 record Says (ts : List Task) (res : List ℕ → TaskResult) (ns : Names) (e : Expression) : Type 0 where
@@ -141,72 +127,93 @@ branches_found : (of : Sight) (ns : Names) → map (λ (s : Stand). s.branch) (m
 branches_found of [] = refl
 branches_found of (n ∷ ns) = ap (λ (ps : List Phase). (of n).branch ∷ ps) (branches_found of ns)
 
-module _ (d : Dag) (states : List TaskState) (at : Look) (i : ℕ) (t : Task) where
-  abbrev s : TaskState
-  s = state_of states i
+-- ---- any task, by its verdict
 
+module _ (A : Answers) (called : Caller) (place : Place) (scope : Scope) (d : Dag) (at : Look) (i : ℕ) (t : Task) where
   abbrev of : Sight
   of n = sight (at n)
 
-  abbrev by : Verdict → Stand
-  by v = stand_by d.fail_fast t.call.continue_on s v
+  -- how it stands by a verdict, where it depends on the tasks of these names
+  abbrev by : Names → Verdict → Standing
+  by ns v = stands_as A called place scope d (tags_before at ns) i t v
 
-  freed_by : (tags : Scope) (b : Bool) → sight (free_by (as_begun states) (as_stated states) nowhere [] d tags i t b) ≡ freed t.call.continue_on s b
-  freed_by tags true = refl
-  freed_by tags false = refl
-
-  free_seen : (tags : Scope) → sight (free (as_begun states) (as_stated states) nowhere [] d tags i t) ≡ by Holds
-  free_seen tags = freed_by tags (not d.fail_fast || s.begun)
-
-  decided_seen :
+  decided_by_verdict :
       (e : Expression) (h : Bool) →
-      sight (decided_by (as_begun states) (as_stated states) nowhere [] d at i t e h)
-      ≡ by (if h then Holds else Denied (worst_branch at (named e)))
-  decided_seen e true = free_seen (tags_before at (named e))
-  decided_seen e false = refl
+      decided_by A called place scope d at i t e h
+      ≡ by (named e) (if h then Holds else Denied (worst_branch at (named e)))
+  decided_by_verdict e true = refl
+  decided_by_verdict e false = refl
 
-  waits_seen :
+  waits_by_verdict :
       (e : Expression) (over : Bool) →
-      sight (waits_by (as_begun states) (as_stated states) nowhere [] d at i t e over)
-      ≡ by (if over then (if truth (λ n. result_of (at n)) e then Holds else Denied (worst_branch at (named e))) else Waits)
-  waits_seen e true = decided_seen e (truth (λ n. result_of (at n)) e)
-  waits_seen e false = refl
+      waits_by A called place scope d at i t e over
+      ≡ by (named e) (if over then (if truth (λ n. result_of (at n)) e then Holds else Denied (worst_branch at (named e))) else Waits)
+  waits_by_verdict e true = decided_by_verdict e (truth (λ n. result_of (at n)) e)
+  waits_by_verdict e false = refl
 
   -- by names that are the same, and a truth that is
-  awaited_seen :
+  awaited_by_verdict :
       (e : Expression) (ns : Names) (holds : Bool) → Same (named e) ns → truth (λ n. result_of (at n)) e ≡ holds →
-      sight (meant (as_begun states) (as_stated states) nowhere [] d at i t (Some e)) ≡ by (verdict_by (map of ns) holds)
-  awaited_seen e ns holds same true_is =
+      meant A called place scope d at i t (Some e) ≡ by (named e) (verdict_by (map of ns) holds)
+  awaited_by_verdict e ns holds same true_is =
       let over : list_all (λ n. is_over (at n)) (named e) ≡ list_all (λ (s : Stand). s.over) (map of ns) =
       same_all (named e) ns same (λ n. is_over (at n)) ∙ sym (over_found of ns) in
       let worst_is : worst_branch at (named e) ≡ worst_of (map (λ (s : Stand). s.branch) (map of ns)) =
       same_worst (named e) ns same (λ n. branch_of (at n)) ∙ sym (ap worst_of (branches_found of ns)) in
-      waits_seen e (list_all (λ n. is_over (at n)) (named e))
-      ∙ (λ j. by (if over j then (if true_is j then Holds else Denied (worst_is j)) else Waits))
+      waits_by_verdict e (list_all (λ n. is_over (at n)) (named e))
+      ∙ (λ j. by (named e) (if over j then (if true_is j then Holds else Denied (worst_is j)) else Waits))
 
-  listed_seen :
+  listed_by_verdict :
       (ns : Names) (o : Option Expression) → all_dependencies d.tasks ns ≡ o →
-      sight (meant (as_begun states) (as_stated states) nowhere [] d at i t o) ≡ by (verdict_listed d.tasks of ns)
-  listed_seen ns None e =
-      free_seen [] ∙ ap (λ (ms : Names). by (verdict_listed d.tasks of ms)) (sym (none_awaited d.tasks (λ n. result_of (at n)) ns e))
-  listed_seen ns (Some w) e =
+      meant A called place scope d at i t o ≡ by (named_by o) (verdict_listed d.tasks of ns)
+  listed_by_verdict ns None e =
+      ap (λ (ms : Names). by [] (verdict_listed d.tasks of ms)) (sym (none_awaited d.tasks (λ n. result_of (at n)) ns e))
+  listed_by_verdict ns (Some w) e =
       let said = says d.tasks (λ n. result_of (at n)) ns w e in
-      awaited_seen w ns (are_met d.tasks ns (map of ns)) said.names (said.true_is ∙ sym (met_found d.tasks of ns))
+      awaited_by_verdict w ns (are_met d.tasks ns (map of ns)) said.names (said.true_is ∙ sym (met_found d.tasks of ns))
 
-  waiting_seen :
+  waiting_by_verdict :
       (o : Option Expression) (dependencies : Option Names) →
-      sight (meant (as_begun states) (as_stated states) nowhere [] d at i t (awaited_by d.tasks o dependencies))
-      ≡ by (verdict_waiting d.tasks of o dependencies)
-  waiting_seen (Some e) dependencies =
-      awaited_seen e (names_of e) (truth (λ n. result_of (at n)) e) (λ q. sym (once e q)) refl
-  waiting_seen None (Some ns) = listed_seen ns (all_dependencies d.tasks ns) refl
-  waiting_seen None None = free_seen []
+      meant A called place scope d at i t (awaited_by d.tasks o dependencies)
+      ≡ by (named_by (awaited_by d.tasks o dependencies)) (verdict_waiting d.tasks of o dependencies)
+  waiting_by_verdict (Some e) dependencies =
+      awaited_by_verdict e (names_of e) (truth (λ n. result_of (at n)) e) (λ q. sym (once e q)) refl
+  waiting_by_verdict None (Some ns) = listed_by_verdict ns (all_dependencies d.tasks ns) refl
+  waiting_by_verdict None None = refl
+
+  if_by_verdict :
+      (b : Bool) →
+      meant_by A called place scope d at i t b
+      ≡ stands_by A called place scope d at i t b (verdict d.tasks of t)
+  if_by_verdict true = waiting_by_verdict t.depends t.dependencies
+  if_by_verdict false = refl
+
+pub by_verdict : StandsByVerdict
+by_verdict A called place scope d at i t = if_by_verdict A called place scope d at i t (is_meant d t)
+
+-- ---- a task whose state is known
+
+module _ (d : Dag) (states : List TaskState) (i : ℕ) (t : Task) where
+  freed_by : (tags : Scope) (b : Bool) → sight (free_by (as_begun states) (as_stated states) nowhere [] d tags i t b) ≡ freed t.call.continue_on (state_of states i) b
+  freed_by tags true = refl
+  freed_by tags false = refl
+
+  stands_seen :
+      (tags : Scope) (v : Verdict) →
+      sight (stands_as (as_begun states) (as_stated states) nowhere [] d tags i t v)
+      ≡ stand_by d.fail_fast t.call.continue_on (state_of states i) v
+  stands_seen tags Waits = refl
+  stands_seen tags Holds = freed_by tags (not d.fail_fast || (state_of states i).begun)
+  stands_seen tags (Denied branch) = refl
 
   seen_if :
-      (b : Bool) →
-      sight (meant_by (as_begun states) (as_stated states) nowhere [] d at i t b) ≡ stand_if d of t s b
-  seen_if true = waiting_seen t.depends t.dependencies
-  seen_if false = refl
+      (of : Sight) (tags : Scope) (b : Bool) →
+      sight (stands_if (as_begun states) (as_stated states) nowhere [] d tags i t b (verdict d.tasks of t))
+      ≡ stand_if d of t (state_of states i) b
+  seen_if how tags true = stands_seen tags (verdict d.tasks how t)
+  seen_if how tags false = refl
 
 pub seen_as_it_stands : SeenAsItStands
-seen_as_it_stands d states at i t = seen_if d states at i t (is_meant d t)
+seen_as_it_stands d states at i t =
+    ap sight (by_verdict (as_begun states) (as_stated states) nowhere [] d at i t)
+    ∙ seen_if d states i t (λ n. sight (at n)) (tags_before at (parents d.tasks t)) (is_meant d t)

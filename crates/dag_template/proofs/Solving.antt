@@ -18,7 +18,7 @@ use Rattle.meaning.specs.Lines.{numbered}
 use Rattle.meaning.specs.Steps.{Caller}
 use Rattle.meaning.specs.Dags.{Names, awaited, is_meant, Standing, is_over, result_of, tags_up_to, tags_before, Look, look, Standings, free, omitted, decided_by, waits_by, meant, meant_by, standing, with_standing, rounds, standings}
 use Rattle.growth.specs.Rounds.{Solves, RoundsSettle}
-use Rattle.dag_template.proofs.Waiting.{Each, each_map, awaited_each}
+use Rattle.dag_template.proofs.Awaiting.{Each, each_map, awaited_each}
 use Rattle.dag_template.proofs.Alike.{Alike, alike_refl, AlikeAt, over_same, branches_same, truth_same}
 
 same_alike : (a b : Look) (n : List ℕ) → a n ≡ b n → AlikeAt a b n

@@ -27,7 +27,7 @@ use Rattle.dag_template.proofs.Ordered.{by_states, rows, seen_rows, told_is, tol
 
 -- ---- targets
 
-failed_seen :
+pub failed_seen :
     (xs : List Standing) → list_any has_failed (map sight xs) ≡ list_any dags.has_failed (filter is_existing xs)
 failed_seen [] = refl
 failed_seen (x ∷ xs) = go (is_existing x) (failed_seen xs)
@@ -39,7 +39,7 @@ failed_seen (x ∷ xs) = go (is_existing x) (failed_seen xs)
     go true e = ap (λ (c : Bool). (is_over x && is_bad (branch_of x)) || c) e
     go false e = e
 
-worst_seen : (xs : List Standing) → worst_target (map sight xs) ≡ worst_of (map branch_of (filter is_existing xs))
+pub worst_seen : (xs : List Standing) → worst_target (map sight xs) ≡ worst_of (map branch_of (filter is_existing xs))
 worst_seen [] = refl
 worst_seen (x ∷ xs) = go (is_existing x) (worst_seen xs)
   where
@@ -52,16 +52,16 @@ worst_seen (x ∷ xs) = go (is_existing x) (worst_seen xs)
 
 -- ---- all tasks
 
-rest_seen : (x : Standing) → is_at_rest (sight x) ≡ dags.is_at_rest x
+pub rest_seen : (x : Standing) → is_at_rest (sight x) ≡ dags.is_at_rest x
 rest_seen waiting = refl
 rest_seen ready = refl
 rest_seen (exists m branch tags) = refl
 
-rests_seen : (xs : Standings) → list_all is_at_rest (map (λ s. sight s.1) xs) ≡ list_all (λ s. dags.is_at_rest s.1) xs
+pub rests_seen : (xs : Standings) → list_all is_at_rest (map (λ s. sight s.1) xs) ≡ list_all (λ s. dags.is_at_rest s.1) xs
 rests_seen [] = refl
 rests_seen (x ∷ xs) = λ i. rest_seen x.1 i && rests_seen xs i
 
-readies_seen : (xs : Standings) → list_any (λ (s : Stand). s.ready) (map (λ s. sight s.1) xs) ≡ list_any (λ s. is_ready s.1) xs
+pub readies_seen : (xs : Standings) → list_any (λ (s : Stand). s.ready) (map (λ s. sight s.1) xs) ≡ list_any (λ s. is_ready s.1) xs
 readies_seen [] = refl
 readies_seen (x ∷ xs) = ap (λ (b : Bool). is_ready x.1 || b) (readies_seen xs)
 

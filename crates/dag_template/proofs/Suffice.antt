@@ -22,7 +22,7 @@ use Rattle.dag_template.specs.declared.states.TaskState.{TaskState}
 use Rattle.dag_template.specs.States.{state_of, nowhere, as_stated, as_begun}
 use Rattle.dag_template.specs.Step.{places_from, denies, is_left_out, step_by, stand}
 use Rattle.dag_template.specs.Seen.{SolvesByStates, seen, state_seen, states_seen, StatesSuffice}
-use Rattle.dag_template.proofs.Waiting.{Each, each_map, awaited_each}
+use Rattle.dag_template.proofs.Awaiting.{Each, each_map, awaited_each}
 use Rattle.dag_template.proofs.Solving.{solve}
 use Rattle.dag_template.proofs.Alike.{Alike, alike_refl, AlikeAt, over_same, truth_same, standing_alike}
 

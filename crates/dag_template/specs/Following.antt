@@ -1,5 +1,5 @@
 -- What follows tasks that are seen so.
-use Rattle.std.specs.Prelude.{ℕ, suc, List, [], ◌∷◌, Bool, not, ◌&&◌, ◌||◌, Some, None, if◌then◌else◌}
+use Rattle.std.specs.Prelude.{ℕ, suc, List, [], ◌∷◌, Bool, not, ◌&&◌, ◌||◌, Option, Some, None, if◌then◌else◌}
 use Rattle.std.specs.List.{list_any, list_all}
 use Rattle.tree_types.specs.declared.phase.Phase.{Phase}
 use Rattle.tree_types.specs.declared.phase.Phase.TheVariants.{Succeeded}
@@ -38,10 +38,14 @@ is_doomed fail_fast targets = fail_fast && list_any has_failed targets
 abbrev pub is_over : Bool → List Stand → Bool
 is_over doomed ss = list_all is_at_rest ss && not (not doomed && list_any (λ s. s.ready) ss)
 
+-- the phase of a DAG that is over
+abbrev pub phase_seen : Bool → List Stand → List Stand → Option Phase
+phase_seen doomed ss targets = if is_over doomed ss then Some (worst_target targets) else None
+
 abbrev pub step_seen : Bool → List Stand → List Stand → DagStep
 step_seen fail_fast ss targets = record {
   exist = places_seen 0 Existing ss;
   omit = places_seen 0 Denied ss;
   begin = if is_doomed fail_fast targets then [] else places_seen 0 Ready ss;
-  phase = if is_over (is_doomed fail_fast targets) ss then Some (worst_target targets) else None;
+  phase = phase_seen (is_doomed fail_fast targets) ss targets;
 }

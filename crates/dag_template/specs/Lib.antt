@@ -4,5 +4,7 @@ pub mod Step
 pub mod Order
 pub mod Following
 pub mod Seen
+pub mod Verdicts
 pub use Rattle.meaning.specs.Dags
 pub use Rattle.growth.specs.Rounds
+pub use Rattle.dag_plan.specs.Plans

@@ -1,5 +1,5 @@
 -- What tasks see of each other, and what becomes of a task by it.
-use Rattle.std.specs.Prelude.{ℕ, List, [], ◌∷◌, ◌≡◌, map, Bool, true, false, not, ◌&&◌, ◌||◌, Option, Some, None, bytes_eq, if◌then◌else◌}
+use Rattle.std.specs.Prelude.{ℕ, zero, suc, List, [], ◌∷◌, ◌≡◌, map, Bool, true, false, not, ◌&&◌, ◌||◌, Option, Some, None, bytes_eq, if◌then◌else◌}
 use Rattle.std.specs.List.{list_all}
 use Rattle.tree_types.specs.declared.phase.Phase.{Phase}
 use Rattle.tree_types.specs.declared.phase.Phase.TheVariants.{Omitted}
@@ -78,10 +78,22 @@ covers_of (t ∷ ts) n = if bytes_eq t.call.name n then covers t.call.continue_o
 abbrev pub is_met : ContinueOn → TaskResult → Bool
 is_met on r = r.succeeded || r.skipped || (on.failed && r.failed) || (on.error && r.errored)
 
+-- the failures of the task at a position that its own `continueOn` covers
+abbrev pub covers_at : List Task → ℕ → ContinueOn
+covers_at [] p = covers None
+covers_at (t ∷ ts) zero = covers t.call.continue_on
+covers_at (t ∷ ts) (suc p) = covers_at ts p
+
 abbrev pub are_met : List Task → Names → List Stand → Bool
 are_met ts [] ss = true
 are_met ts (n ∷ ns) [] = true
 are_met ts (n ∷ ns) (s ∷ ss) = is_met (covers_of ts n) s.result && are_met ts ns ss
+
+-- by the positions of the dependencies
+abbrev pub are_met_at : List Task → List ℕ → List Stand → Bool
+are_met_at ts [] ss = true
+are_met_at ts (p ∷ ps) [] = true
+are_met_at ts (p ∷ ps) (s ∷ ss) = is_met (covers_at ts p) s.result && are_met_at ts ps ss
 
 -- by `dependencies`
 abbrev pub verdict_listed : List Task → Sight → Names → Verdict

@@ -1,10 +1,14 @@
 //! Whether what a task waits for holds.
 
-ghost use Rattle.std.specs.Prelude.{◌≡◌, length, map, IfOk};
+ghost use Rattle.std.specs.Prelude.{◌≡◌, ◌<◌, length, map, IfOk};
+ghost use Rattle.std.specs.List.{All};
+ghost use Rattle.depends_expr.specs.Truth.{names_of};
+ghost use Rattle.task_order.specs.Orders.{waited};
+ghost use Rattle.dag_plan.specs.Plans.{AreAt};
 ghost use Rattle.dag_template.specs.Stands as spec;
 
-use crate::stands::{Stand, are_over, results_of, stands_listed, stands_named, worst_branch};
-use base_types::{Memory, Text};
+use crate::stands::{Stand, are_over, results_of, stands_at, worst_branch};
+use base_types::Memory;
 use depends_expr::{Depends, TaskResult, eval};
 use std::alloc::Global;
 use tree_types::Phase;
@@ -12,7 +16,7 @@ use wf_manifest::{ContinueOn, Task};
 
 /// What becomes of a task by what it waits for.
 #[derive(Clone, Copy, Debug)]
-pub(crate) enum Verdict {
+pub enum Verdict {
     /// A task that it names is not over.
     Waits,
     /// It may begin.
@@ -21,39 +25,21 @@ pub(crate) enum Verdict {
     Denied(Phase),
 }
 
-// By what a task's `depends` says.
-fn judge_depends(
-    alloc: Global,
-    tasks: &[Task],
-    stands: &[Stand],
-    depends: &Depends,
-) -> Result<Verdict, Memory>
-    requires each { length tasks.now ≡ length stands.now }
-    ensures { IfOk result (λ verdict.
-        verdict ≡ spec.verdict_named (spec.stand_of tasks.now stands.now) depends.now) }
+// By what a task's `depends` says, where the tasks that it names stand so.
+fn judge_depends(alloc: Global, found: &[Stand], depends: &Depends) -> Result<Verdict, Memory>
+    requires each { length found.now ≡ length (names_of depends.now) }
+    ensures { (of : spec.Sight) → map of (names_of depends.now) ≡ found.now →
+        IfOk result (λ verdict. verdict ≡ spec.verdict_named of depends.now) }
 {
-    let found = stands_named(alloc, tasks, stands, depends)?;
-    if !are_over(found.as_slice()) {
+    if !are_over(found) {
         return Ok(Verdict::Waits);
     }
-    let results = results_of(alloc, found.as_slice())?;
+    let results = results_of(alloc, found)?;
     if eval(depends, results.as_slice()) {
         Ok(Verdict::Holds)
     } else {
-        Ok(Verdict::Denied(worst_branch(found.as_slice())))
+        Ok(Verdict::Denied(worst_branch(found)))
     }
-}
-
-// The failures of the first task of a name that its own `continueOn` covers.
-fn covers_of(tasks: &[Task], name: &str) -> ContinueOn
-    ensures { result ≡ spec.covers_of tasks.now name.now }
-{
-    for i in 0..tasks.len() {
-        if tasks[i].call.name.as_str() == name {
-            return covers(tasks[i].call.continue_on);
-        }
-    }
-    covers(None)
 }
 
 pub(crate) fn covers(continue_on: Option<ContinueOn>) -> ContinueOn
@@ -77,54 +63,60 @@ fn is_met(covered: ContinueOn, task: TaskResult) -> bool
         || (covered.error && task.errored)
 }
 
-// Whether each dependency is met.
-fn are_met(tasks: &[Task], names: &[Text], found: &[Stand]) -> bool
-    requires each { length names.now ≡ length found.now }
-    ensures { result ≡ spec.are_met tasks.now names.now found.now }
+// The failures of the task at a position that its own `continueOn` covers.
+fn covers_at(tasks: &[Task], place: usize) -> ContinueOn
+    requires { place < length tasks.now }
+    ensures { result ≡ spec.covers_at tasks.now place }
 {
-    for i in 0..names.len() {
-        if !is_met(covers_of(tasks, names[i].as_str()), found[i].result) {
+    covers(tasks[place].call.continue_on)
+}
+
+// Whether each dependency is met.
+fn are_met(tasks: &[Task], places: &[usize], found: &[Stand]) -> bool
+    requires within { All (λ p. p < length tasks.now) places.now }
+    requires each { length places.now ≡ length found.now }
+    ensures { result ≡ spec.are_met_at tasks.now places.now found.now }
+{
+    for i in 0..places.len() {
+        if !is_met(covers_at(tasks, places[i]), found[i].result) {
             return false;
         }
     }
     true
 }
 
-// By a task's `dependencies`.
-fn judge_dependencies(
-    alloc: Global,
-    tasks: &[Task],
-    stands: &[Stand],
-    names: &[Text],
-) -> Result<Verdict, Memory>
-    requires each { length tasks.now ≡ length stands.now }
-    ensures { IfOk result (λ verdict.
-        verdict ≡ spec.verdict_listed tasks.now (spec.stand_of tasks.now stands.now) names.now) }
+// By a task's `dependencies`, where those stand so.
+fn judge_dependencies(tasks: &[Task], places: &[usize], found: &[Stand]) -> Verdict
+    requires within { All (λ p. p < length tasks.now) places.now }
+    requires each { length places.now ≡ length found.now }
+    ensures { result ≡ spec.verdict_by found.now (spec.are_met_at tasks.now places.now found.now) }
 {
-    let found = stands_listed(alloc, tasks, stands, names)?;
-    if !are_over(found.as_slice()) {
-        Ok(Verdict::Waits)
-    } else if are_met(tasks, names, found.as_slice()) {
-        Ok(Verdict::Holds)
+    if !are_over(found) {
+        Verdict::Waits
+    } else if are_met(tasks, places, found) {
+        Verdict::Holds
     } else {
-        Ok(Verdict::Denied(worst_branch(found.as_slice())))
+        Verdict::Denied(worst_branch(found))
     }
 }
 
-/// What becomes of a task, by how the tasks stand.
-pub(crate) fn judge(
+/// What becomes of a task, by how the tasks stand. `places` are the positions of those that it waits for.
+pub fn judge(
     alloc: Global,
     tasks: &[Task],
     stands: &[Stand],
     task: &Task,
+    places: &[usize],
 ) -> Result<Verdict, Memory>
     requires each { length tasks.now ≡ length stands.now }
+    requires places { AreAt tasks.now (waited task.now) places.now }
     ensures { IfOk result (λ verdict.
         verdict ≡ spec.verdict tasks.now (spec.stand_of tasks.now stands.now) task.now) }
 {
+    let found = stands_at(alloc, stands, places)?;
     match (&task.depends, &task.dependencies) {
-        (Some(depends), _) => judge_depends(alloc, tasks, stands, depends),
-        (None, Some(names)) => judge_dependencies(alloc, tasks, stands, names.as_slice()),
+        (Some(depends), _) => judge_depends(alloc, found.as_slice(), depends),
+        (None, Some(_)) => Ok(judge_dependencies(tasks, places, found.as_slice())),
         (None, None) => Ok(Verdict::Holds),
     }
 }

@@ -2,6 +2,7 @@
 
 ghost use Rattle.dag_template.specs.Seen.{SolvedIsTold, StatesSuffice};
 ghost use Rattle.dag_template.specs.Stands.{SeenAsItStands};
+ghost use Rattle.dag_template.specs.Verdicts.{StandsByVerdict};
 
 use growth::laws::rounds_settle;
 
@@ -23,4 +24,9 @@ pub fn states_suffice()
 /// Each task is seen as it stands, given how the others are seen.
 pub fn seen_as_it_stands()
     ensures { SeenAsItStands }
+{}
+
+/// How each task stands is told by its verdict, given how the others stand.
+pub fn stands_by_verdict()
+    ensures { StandsByVerdict }
 {}

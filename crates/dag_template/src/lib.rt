@@ -9,5 +9,7 @@ mod standing;
 mod stands;
 mod states;
 
-pub use next::next_in_order;
+pub use judging::{Verdict, judge};
+pub use next::{dag_next, is_doomed, next_in_order, phase_seen};
+pub use stands::{Stand, stands_at, waiting};
 pub use states::{DagStep, Places, TaskState, TaskStates};

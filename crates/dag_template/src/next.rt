@@ -1,18 +1,20 @@
 //! What follows the tasks of a DAG.
 
-ghost use Rattle.std.specs.Prelude.{◌≡◌, ◌<◌, ◌^◌, length, map, IfOk};
+ghost use Rattle.std.specs.Prelude.{◌≡◌, ◌<◌, ◌^◌, length, IfOk, IsTrue};
 ghost use Rattle.std.specs.List.{list_any, list_all};
 ghost use Rattle.tree_types.specs.Phases.{worst_of};
-ghost use Rattle.wf_manifest.specs.Valid.{HasRank};
-ghost use Rattle.meaning.specs.Dags.{is_meant, target_names};
+ghost use Rattle.base_types.specs.Names.{all_differ};
+ghost use Rattle.wf_manifest.specs.declared.templates.Body.TheVariants as body;
+ghost use Rattle.wf_manifest.specs.Valid.{task_names, tasks_are_there, HasRank};
+ghost use Rattle.dag_plan.specs.Plans.{IsPlan};
 ghost use Rattle.dag_template.specs.Step as steps;
-ghost use Rattle.dag_template.specs.Order.{IsOrder};
 ghost use Rattle.dag_template.specs.Following as spec;
 
 use crate::in_order::stands_in_order;
-use crate::stands::{Stand, stands_listed};
+use crate::stands::{Stand, stands_at};
 use crate::{DagStep, Places, TaskState};
-use base_types::{List, Memory, Text};
+use base_types::{List, Memory};
+use dag_plan::DagPlan;
 use growth::laws::rounds_settle;
 use std::alloc::Global;
 use tree_types::{Phase, worst};
@@ -102,6 +104,24 @@ fn worst_target(targets: &[Stand]) -> Phase
     phase
 }
 
+/// Whether a DAG is doomed whose targets stand so.
+pub fn is_doomed(fail_fast: bool, targets: &[Stand]) -> bool
+    ensures { result ≡ spec.is_doomed fail_fast targets.now }
+{
+    fail_fast && is_one_failed(targets)
+}
+
+/// The phase of a DAG that is over, whose tasks and targets stand so.
+pub fn phase_seen(doomed: bool, stands: &[Stand], targets: &[Stand]) -> Option<Phase>
+    ensures { result ≡ spec.phase_seen doomed stands.now targets.now }
+{
+    if are_at_rest(stands) && (doomed || !is_one_ready(stands)) {
+        Some(worst_target(targets))
+    } else {
+        None
+    }
+}
+
 fn step_of(
     alloc: Global,
     fail_fast: bool,
@@ -111,47 +131,48 @@ fn step_of(
     requires few { length stands.now < 2 ^ 32 }
     ensures { IfOk result (λ step. step ≡ spec.step_seen fail_fast stands.now targets.now) }
 {
-    let doomed = fail_fast && is_one_failed(targets);
+    let doomed = is_doomed(fail_fast, targets);
     let begin = if doomed {
         List::new(alloc)
     } else {
         places(alloc, Asked::Ready, stands)?
     };
-    let over = are_at_rest(stands) && (doomed || !is_one_ready(stands));
-    let phase = if over {
-        Some(worst_target(targets))
-    } else {
-        None
-    };
     Ok(DagStep {
         exist: places(alloc, Asked::Existing, stands)?,
         omit: places(alloc, Asked::Denied, stands)?,
         begin,
-        phase,
+        phase: phase_seen(doomed, stands, targets),
     })
 }
 
-/// What follows the tasks of a DAG by their states, gone through in an order in which each stands behind those that it waits
-/// for. `meant` says of each task whether it is a target or an ancestor of one, and `targets` names the targets: none of the
-/// three changes with the states.
+/// What follows the tasks of a DAG by their states, gone through in the order of its plan, which does not change with the
+/// states.
 pub fn next_in_order(
     alloc: Global,
     dag: &Dag,
-    order: &[usize],
-    meant: &[bool],
-    targets: &[Text],
+    plan: &DagPlan,
     tasks: &[TaskState],
 ) -> Result<DagStep, Memory>
-    requires ranked { HasRank dag.now.tasks }
-    requires order { IsOrder dag.now.tasks order.now }
-    requires meant { meant.now ≡ map (is_meant dag.now) dag.now.tasks }
-    requires targets { targets.now ≡ target_names dag.now }
+    requires plan { IsPlan dag.now plan.now }
     requires each { length tasks.now ≡ length dag.now.tasks }
     requires few { length dag.now.tasks < 2 ^ 32 }
     ensures { IfOk result (λ step. step ≡ steps.step dag.now tasks.now) }
 {
     rounds_settle();
-    let stands = stands_in_order(alloc, dag, order, meant, tasks)?;
-    let found = stands_listed(alloc, dag.tasks.as_slice(), stands.as_slice(), targets)?;
+    let stands = stands_in_order(alloc, dag, plan, tasks)?;
+    let found = stands_at(alloc, stands.as_slice(), plan.targets.as_slice())?;
     step_of(alloc, dag.fail_fast, stands.as_slice(), found.as_slice())
+}
+
+/// What follows the tasks of a DAG by their states.
+pub fn dag_next(alloc: Global, dag: &Dag, tasks: &[TaskState]) -> Result<DagStep, Memory>
+    requires ranked { HasRank dag.now.tasks }
+    requires differ { IsTrue (all_differ (task_names dag.now)) }
+    requires there { IsTrue (tasks_are_there (body.Dag dag.now)) }
+    requires each { length tasks.now ≡ length dag.now.tasks }
+    requires few { length dag.now.tasks < 2 ^ 32 }
+    ensures { IfOk result (λ step. step ≡ steps.step dag.now tasks.now) }
+{
+    let plan = DagPlan::new(alloc, dag)?;
+    next_in_order(alloc, dag, &plan, tasks)
 }

@@ -1,6 +1,8 @@
 //! How a task stands by what becomes of it.
 
 ghost use Rattle.std.specs.Prelude.{◌≡◌, length, IfOk};
+ghost use Rattle.task_order.specs.Orders.{waited};
+ghost use Rattle.dag_plan.specs.Plans.{AreAt};
 ghost use Rattle.meaning.specs.Steps as steps;
 ghost use Rattle.meaning.specs.Dags as dags;
 ghost use Rattle.dag_template.specs.States as states;
@@ -103,22 +105,24 @@ fn stand_by(
     }
 }
 
-/// How a task stands, by how those stand that it waits for.
+/// How a task stands, by how those stand that it waits for. `places` are the positions of these.
 pub(crate) fn stand(
     alloc: Global,
     dag: &Dag,
     stands: &[Stand],
     task: &Task,
+    places: &[usize],
     state: TaskState,
     meant: bool,
 ) -> Result<Stand, Memory>
     requires each { length dag.now.tasks ≡ length stands.now }
+    requires places { AreAt dag.now.tasks (waited task.now) places.now }
     ensures { IfOk result (λ stand.
         stand ≡ spec.stand_if dag.now (spec.stand_of dag.now.tasks stands.now) task.now state meant) }
 {
     if !meant {
         return Ok(waiting());
     }
-    let verdict = judge(alloc, dag.tasks.as_slice(), stands, task)?;
+    let verdict = judge(alloc, dag.tasks.as_slice(), stands, task, places)?;
     Ok(stand_by(dag.fail_fast, task.call.continue_on, state, verdict))
 }

@@ -1,31 +1,29 @@
 //! What tasks see of each other.
 
-ghost use Rattle.std.specs.Prelude.{◌≡◌, length, map, IfOk};
-ghost use Rattle.std.specs.List.{list_all};
+ghost use Rattle.std.specs.Prelude.{◌≡◌, ◌<◌, length, map, get_or, IfOk};
+ghost use Rattle.std.specs.List.{All, list_all};
 ghost use Rattle.tree_types.specs.Phases.{worst_of};
-ghost use Rattle.depends_expr.specs.Truth.{names_of};
 ghost use Rattle.dag_template.specs.Stands as spec;
 
-use base_types::{List, Memory, Text};
-use depends_expr::{Depends, TaskResult};
+use base_types::{List, Memory};
+use depends_expr::TaskResult;
 use std::alloc::Global;
 use tree_types::{Phase, worst};
-use wf_manifest::Task;
 
 /// What others see of how a task stands: whether it exists, whether it is Omitted, whether it may begin, whether it is over,
 /// its branch phase and its results.
 #[derive(Clone, Copy, Debug)]
-pub(crate) struct Stand {
-    pub(crate) existing: bool,
-    pub(crate) denied: bool,
-    pub(crate) ready: bool,
-    pub(crate) over: bool,
-    pub(crate) branch: Phase,
-    pub(crate) result: TaskResult,
+pub struct Stand {
+    pub existing: bool,
+    pub denied: bool,
+    pub ready: bool,
+    pub over: bool,
+    pub branch: Phase,
+    pub result: TaskResult,
 }
 
-// A task that waits, or is none.
-pub(crate) fn waiting() -> Stand
+/// A task that waits, or is none.
+pub fn waiting() -> Stand
     ensures { result ≡ spec.waits }
 {
     Stand {
@@ -46,49 +44,14 @@ pub(crate) fn waiting() -> Stand
     }
 }
 
-// How the first task of a name stands.
-fn stand_of(tasks: &[Task], stands: &[Stand], name: &str) -> Stand
-    requires each { length tasks.now ≡ length stands.now }
-    ensures { result ≡ spec.stand_of tasks.now stands.now name.now }
+/// How the tasks at these positions stand.
+pub fn stands_at(alloc: Global, stands: &[Stand], places: &[usize]) -> Result<List<Stand>, Memory>
+    requires { All (λ p. p < length stands.now) places.now }
+    ensures { IfOk result (λ found. found ≡ map (λ p. get_or stands.now p spec.waits) places.now) }
 {
-    for i in 0..tasks.len() {
-        if tasks[i].call.name.as_str() == name {
-            return stands[i];
-        }
-    }
-    waiting()
-}
-
-// How the tasks stand that a `depends` names.
-pub(crate) fn stands_named(
-    alloc: Global,
-    tasks: &[Task],
-    stands: &[Stand],
-    depends: &Depends,
-) -> Result<List<Stand>, Memory>
-    requires each { length tasks.now ≡ length stands.now }
-    ensures { IfOk result (λ found. found ≡ map (spec.stand_of tasks.now stands.now) (names_of depends.now)) }
-{
-    let mut found = List::new(alloc);
-    for i in 0..depends.names() {
-        found.push(stand_of(tasks, stands, depends.name(i)))?;
-    }
-    Ok(found)
-}
-
-// How the tasks of these names stand.
-pub(crate) fn stands_listed(
-    alloc: Global,
-    tasks: &[Task],
-    stands: &[Stand],
-    names: &[Text],
-) -> Result<List<Stand>, Memory>
-    requires each { length tasks.now ≡ length stands.now }
-    ensures { IfOk result (λ found. found ≡ map (spec.stand_of tasks.now stands.now) names.now) }
-{
-    let mut found = List::new(alloc);
-    for i in 0..names.len() {
-        found.push(stand_of(tasks, stands, names[i].as_str()))?;
+    let mut found = List::with_capacity(alloc, places.len())?;
+    for i in 0..places.len() {
+        found.push(stands[places[i]])?;
     }
     Ok(found)
 }

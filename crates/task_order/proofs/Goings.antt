@@ -7,7 +7,7 @@ use Rattle.std.specs.List.{Contains, sum_by}
 use Rattle.task_order.specs.declared.stage.Stage.{Stage}
 use Rattle.task_order.specs.declared.stage.Stage.TheVariants.{New, Open, Done}
 use Rattle.task_order.specs.declared.walk.Walk.{Walk}
-use Rattle.task_order.specs.Inside.Graphs.{row, AreWithin, Reaches}
+use Rattle.task_order.specs.Orders.{row, AreWithin, Reaches}
 use Rattle.task_order.specs.Inside.Walks.{stage, Sound, IsSound, weight, GoesOn}
 use Rattle.task_order.proofs.Among.{among_from}
 use Rattle.task_order.proofs.Graphs.{row_within}

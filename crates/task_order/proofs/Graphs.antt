@@ -9,7 +9,8 @@ use Rattle.depends_expr.specs.Truth.{named}
 use Rattle.wf_manifest.specs.declared.calls.Task.{Task}
 use Rattle.wf_manifest.specs.Valid.{waits_for, names_in}
 use Rattle.task_order.specs.Ancestors.{names, Waits, IsAncestor, parent, above, HasOwnAncestor}
-use Rattle.task_order.specs.Inside.Graphs.{place, places, waited_in, waited, row, with_more, added, IsGraph, AreWithin, Reaches, at_once, over}
+use Rattle.task_order.specs.Orders.{place, places, waited_in, waited, row, AreWithin, Reaches, at_once, over}
+use Rattle.task_order.specs.Inside.Graphs.{with_more, added, IsGraph}
 use Rattle.task_order.proofs.Among.{Among, among_from, contains_from, among_left, among_right, among_either, among_map, among_given, given_from, listed, is_listed, same_or}
 use Rattle.task_order.proofs.NameLists.{all_added, only, place_reads, place_told, place_found, place_in}
 

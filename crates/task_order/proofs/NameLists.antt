@@ -7,7 +7,7 @@ use Rattle.std.proofs.lemmas.List.{get_or_default}
 use Rattle.std.proofs.lemmas.List.Quantifiers.{position-Some}
 use Rattle.std.proofs.lemmas.List.Sums.{fails_before_first}
 use Rattle.depends_expr.specs.Truth.{add_name, add_names}
-use Rattle.task_order.specs.Inside.Graphs.{place}
+use Rattle.task_order.specs.Orders.{place}
 use Rattle.task_order.proofs.Among.{Among, among_from, contains_from, among_left, among_right, among_either, listed, same_text, text_same}
 
 pub one_kept : (names : List (List ℕ)) (name other : List ℕ) → Among other names → Among other (add_name names name)

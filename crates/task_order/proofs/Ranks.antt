@@ -8,7 +8,8 @@ use Rattle.std.specs.List.{All, Contains, position_or_len}
 use Rattle.wf_manifest.specs.declared.calls.Task.{Task}
 use Rattle.wf_manifest.specs.Valid.{waits_for, HasRank}
 use Rattle.task_order.specs.Ancestors.{Waits, IsAncestor, parent, above}
-use Rattle.task_order.specs.Inside.Graphs.{place, row, IsGraph, IsOrder}
+use Rattle.task_order.specs.Orders.{place, row, IsOrder}
+use Rattle.task_order.specs.Inside.Graphs.{IsGraph}
 use Rattle.task_order.proofs.Among.{Among, among_from, contains_from}
 use Rattle.task_order.proofs.NameLists.{place_reads}
 use Rattle.task_order.proofs.Graphs.{graph_long, task_in, edge}

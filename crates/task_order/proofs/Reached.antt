@@ -6,7 +6,7 @@ use Rattle.std.proofs.lemmas.List.Elements.{All-contains, Contains-push_cases}
 use Rattle.std.proofs.lemmas.List.Folds.{list_any_more}
 use Rattle.std.specs.List.{All, Contains, list_any}
 use Rattle.task_order.specs.declared.places.Places.{Places}
-use Rattle.task_order.specs.Inside.Graphs.{row, Reaches, at_once, over, IsOrder}
+use Rattle.task_order.specs.Orders.{row, Reaches, at_once, over, IsOrder}
 use Rattle.task_order.specs.Inside.Rows.{has, bits_of, HoldReached}
 use Rattle.task_order.proofs.Among.{Among, among_from, contains_from, any_from, any_at, same_or}
 

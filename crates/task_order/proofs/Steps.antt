@@ -8,7 +8,8 @@ use Rattle.std.proofs.lemmas.List.Elements.{filter_map-append}
 use Rattle.depends_expr.specs.Truth.{add_name, add_names}
 use Rattle.wf_manifest.specs.declared.calls.Task.{Task}
 use Rattle.task_order.specs.Ancestors.{names}
-use Rattle.task_order.specs.Inside.Graphs.{place, places, added}
+use Rattle.task_order.specs.Orders.{place, places}
+use Rattle.task_order.specs.Inside.Graphs.{added}
 
 add_names_more : (ns ms : List (List ℕ)) (m : List ℕ) → add_names ns (ms ++ m ∷ []) ≡ add_name (add_names ns ms) m
 add_names_more ns [] m = refl

@@ -5,7 +5,8 @@ use Rattle.wf_manifest.specs.Valid.{HasRank}
 use Rattle.wf_manifest.specs.declared.calls.Task.{Task}
 use Rattle.task_order.specs.declared.places.Places.{Places}
 use Rattle.task_order.specs.Ancestors.{IsAncestor, HasOwnAncestor}
-use Rattle.task_order.specs.Inside.Graphs.{place, IsGraph, IsOrder, Reaches}
+use Rattle.task_order.specs.Orders.{place, IsOrder, Reaches}
+use Rattle.task_order.specs.Inside.Graphs.{IsGraph}
 use Rattle.task_order.specs.Inside.Rows.{HoldReached, AreAncestors}
 use Rattle.task_order.proofs.NameLists.{place_reads}
 use Rattle.task_order.proofs.Graphs.{graph_long, ancestor_reached, reached_ancestor, own_ancestor}

@@ -7,7 +7,7 @@ use Rattle.std.proofs.lemmas.List.Sums.{sum_by-set}
 use Rattle.std.specs.List.{All, Contains, sum_by}
 use Rattle.task_order.specs.declared.stage.Stage.{Stage}
 use Rattle.task_order.specs.declared.stage.Stage.TheVariants.{New, Open, Done}
-use Rattle.task_order.specs.Inside.Graphs.{row, Reaches, at_once, over, StandsBehind, IsOrder}
+use Rattle.task_order.specs.Orders.{row, Reaches, at_once, over, StandsBehind, IsOrder}
 use Rattle.task_order.specs.Inside.Walks.{stage, Sound, weight}
 use Rattle.task_order.proofs.Among.{same_or}
 

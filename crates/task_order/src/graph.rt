@@ -2,7 +2,8 @@
 
 ghost use Rattle.std.specs.Prelude.{◌≡◌, ◌++◌, ℕ, List as Seq, [], fold, replicate, length, IfOk, OnOk};
 ghost use Rattle.depends_expr.specs.Truth.{names_of};
-ghost use Rattle.task_order.specs.Inside.Graphs.{places, waited, added, row, IsGraph};
+ghost use Rattle.task_order.specs.Orders.{places, waited, row};
+ghost use Rattle.task_order.specs.Inside.Graphs.{added, IsGraph};
 
 use crate::names::{NameTable, table_of};
 use base_types::{List, Memory, Text};
@@ -62,7 +63,11 @@ fn add_task(table: &NameTable<'_>, task: &Task, waits: &mut Vec<List<usize>>) ->
 }
 
 // Adds the places of the names that a task waits for.
-fn add_waited(table: &NameTable<'_>, task: &Task, row: &mut List<usize>) -> Result<(), Memory>
+pub(crate) fn add_waited(
+    table: &NameTable<'_>,
+    task: &Task,
+    row: &mut List<usize>,
+) -> Result<(), Memory>
     ensures { OnOk result (row.new ≡ row.old ++ places table.now (waited task.now)) }
 {
     match (&task.depends, &task.dependencies) {
@@ -83,7 +88,11 @@ fn add_named(table: &NameTable<'_>, depends: &Depends, row: &mut List<usize>) ->
     Ok(())
 }
 
-fn add_places(table: &NameTable<'_>, names: &[Text], row: &mut List<usize>) -> Result<(), Memory>
+pub(crate) fn add_places(
+    table: &NameTable<'_>,
+    names: &[Text],
+    row: &mut List<usize>,
+) -> Result<(), Memory>
     ensures { OnOk result (row.new ≡ row.old ++ places table.now names.now) }
 {
     for i in 0..names.len() {

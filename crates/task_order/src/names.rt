@@ -3,7 +3,7 @@
 ghost use Rattle.std.specs.Prelude.{◌≡◌, [], IfOk, OnOk, length};
 ghost use Rattle.depends_expr.specs.Truth.{add_name, add_names};
 ghost use Rattle.task_order.specs.Ancestors.{names};
-ghost use Rattle.task_order.specs.Inside.Graphs.{place};
+ghost use Rattle.task_order.specs.Orders.{place};
 
 use base_types::Memory;
 use indexmap::IndexSet;
@@ -13,7 +13,7 @@ use wf_manifest::Task;
 
 /// Names, each once. Contracts see them in the order of their places.
 #[derive(Drop)]
-pub(crate) struct NameTable<'a> {
+pub struct NameTable<'a> {
     set: IndexSet<&'a str>,
 }
 
@@ -41,14 +41,14 @@ impl<'a> NameTable<'a> {
         Ok(())
     }
 
-    pub(crate) fn len(&self) -> usize
+    pub fn len(&self) -> usize
         ensures { result ≡ length self.now }
     {
         self.set.len()
     }
 
     /// The place of a name, if it is among them.
-    pub(crate) fn place(&self, name: &str) -> Option<usize>
+    pub fn place(&self, name: &str) -> Option<usize>
         ensures { result ≡ place self.now name.now }
     {
         self.set.get_index_of(name)
@@ -56,7 +56,7 @@ impl<'a> NameTable<'a> {
 }
 
 /// The names of tasks.
-pub(crate) fn table_of<'a>(alloc: Global, tasks: &'a [Task]) -> Result<NameTable<'a>, Memory>
+pub fn table_of<'a>(alloc: Global, tasks: &'a [Task]) -> Result<NameTable<'a>, Memory>
     ensures { IfOk result (λ table. table ≡ add_names [] (names tasks.entry.now)) }
 {
     let mut table = NameTable::new(alloc);

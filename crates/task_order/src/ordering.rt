@@ -1,14 +1,14 @@
 //! Places in order, each behind those that it waits for.
 
 ghost use Rattle.std.specs.Prelude.{ℕ, IfOk, IfSome, IfNone};
-ghost use Rattle.task_order.specs.Inside.Graphs.{AreWithin, Reaches, IsOrder};
+ghost use Rattle.task_order.specs.Orders.{AreWithin, Reaches, IsOrder};
 
 use crate::walk::Walk;
 use base_types::{List, Memory};
 use std::alloc::Global;
 
 /// The places in order; `None` where one reaches itself.
-pub(crate) fn order_of(alloc: Global, waits: &[List<usize>]) -> Result<Option<Vec<usize>>, Memory>
+pub fn order_of(alloc: Global, waits: &[List<usize>]) -> Result<Option<Vec<usize>>, Memory>
     requires { AreWithin waits.now }
     ensures some { IfOk result (λ found. IfSome found (λ order. IsOrder waits.now order.items)) }
     ensures none { IfOk result (λ found. IfNone found ((v : ℕ) × Reaches waits.now v v)) }

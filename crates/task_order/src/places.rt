@@ -2,7 +2,7 @@
 
 ghost use Rattle.std.specs.Prelude.{◌≡◌, ◌==◌, ◌||◌, ◌↔◌, ℕ, ◌<◌, ◌≤◌, ◌+◌, ◌*◌, ◌/◌, false, length, vec_len, IfOk, IsTrue};
 ghost use Rattle.std.specs.List.{All, list_any};
-ghost use Rattle.task_order.specs.Inside.Graphs.{row, AreWithin, Reaches, IsOrder};
+ghost use Rattle.task_order.specs.Orders.{row, AreWithin, Reaches, IsOrder};
 ghost use Rattle.task_order.specs.Inside.Rows.{has, bits_of, HoldReached};
 
 use base_types::{List, Memory};

@@ -3,7 +3,7 @@
 
 ghost use Rattle.std.specs.Prelude.{◌≡◌, ◌≢◌, ◌∷◌, ◌++◌, ℕ, ◌<◌, ◌≤◌, ◌-◌, [], length, take, replicate, slice_index, slice_set, vec_len, IfOk, OnOk};
 ghost use Rattle.std.specs.List.{All};
-ghost use Rattle.task_order.specs.Inside.Graphs.{AreWithin, Reaches};
+ghost use Rattle.task_order.specs.Orders.{AreWithin, Reaches};
 ghost use Rattle.task_order.specs.Inside.Walks.{stage, IsSound, Goes, Ends};
 
 use crate::stage::Stage;

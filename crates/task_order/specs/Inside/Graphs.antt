@@ -1,31 +1,9 @@
--- Tasks by the places of their names.
-use Rattle.std.specs.Prelude.{◌≡◌, ℕ, ◌<◌, List, [], ◌++◌, length, take, fold, replicate, Option, Some, None, position, bytes_eq, get_or, slice_set}
-use Rattle.std.specs.List.{All, Contains, filter_map}
-use Rattle.depends_expr.specs.Expression.{Expression}
-use Rattle.depends_expr.specs.Truth.{names_of, add_names}
+-- Rows of places, gathered from the tasks of each name.
+use Rattle.std.specs.Prelude.{◌≡◌, ℕ, List, [], ◌++◌, length, fold, replicate, Option, Some, None, slice_set}
+use Rattle.depends_expr.specs.Truth.{add_names}
 use Rattle.wf_manifest.specs.declared.calls.Task.{Task}
 use Rattle.task_order.specs.Ancestors.{names}
-
--- the place of a name
-abbrev pub place : List (List ℕ) → List ℕ → Option ℕ
-place table name = position (bytes_eq name) table
-
--- the places of those that are in the table
-abbrev pub places : List (List ℕ) → List (List ℕ) → List ℕ
-places table ns = filter_map (place table) ns
-
--- what a task waits for, where an expression tells each name once
-abbrev pub waited_in : Option Expression → Option (List (List ℕ)) → List (List ℕ)
-waited_in (Some depends) dependencies = names_of depends
-waited_in None (Some dependencies) = dependencies
-waited_in None None = []
-
-abbrev pub waited : Task → List (List ℕ)
-waited t = waited_in t.depends t.dependencies
-
--- the places that a place waits for
-abbrev pub row : List (List ℕ) → ℕ → List ℕ
-row waits v = get_or waits v []
+use Rattle.task_order.specs.Orders.{place, places, waited, row}
 
 abbrev pub with_more : List (List ℕ) → List ℕ → Option ℕ → List (List ℕ)
 with_more waits more None = waits
@@ -38,22 +16,3 @@ added table waits t = with_more waits (places table (waited t)) (place table t.c
 pub record IsGraph (tasks : List Task) (table : List (List ℕ)) (waits : List (List ℕ)) : Type 0 where
   pub table_is : table ≡ add_names [] (names tasks)
   pub waits_is : waits ≡ fold (added table) (replicate (length table) []) tasks
-
--- rows name places alone
-abbrev pub AreWithin : List (List ℕ) → Type 0
-AreWithin waits = All (All (λ d. d < length waits)) waits
-
--- a place waits for the goal, or for one that reaches it
-pub data Reaches (waits : List (List ℕ)) (goal : ℕ) : ℕ → Type 0 where
-  at_once : {v : ℕ} → Contains (row waits v) goal → Reaches waits goal v
-  over : {v : ℕ} (u : ℕ) → Contains (row waits v) u → Reaches waits goal u → Reaches waits goal v
-
--- each place stands behind those that it waits for
-abbrev pub StandsBehind : List (List ℕ) → List ℕ → Type 0
-StandsBehind waits order =
-    (k : ℕ) → k < length order → All (Contains (take k order)) (row waits (get_or order k 0))
-
-pub record IsOrder (waits : List (List ℕ)) (order : List ℕ) : Type 0 where
-  pub behind : StandsBehind waits order
-  pub within : All (λ v. v < length waits) order
-  pub whole : (v : ℕ) → v < length waits → Contains order v

@@ -4,7 +4,7 @@ use Rattle.std.specs.Int.{bit_at}
 use Rattle.wf_manifest.specs.declared.calls.Task.{Task}
 use Rattle.task_order.specs.declared.places.Places.{Places}
 use Rattle.task_order.specs.Ancestors.{IsAncestor}
-use Rattle.task_order.specs.Inside.Graphs.{place, Reaches}
+use Rattle.task_order.specs.Orders.{place, Reaches}
 
 -- a place is in a set
 abbrev pub has : List ℕ → ℕ → Bool

@@ -4,7 +4,7 @@ use Rattle.std.specs.List.{All, Contains, sum_by}
 use Rattle.task_order.specs.declared.stage.Stage.{Stage}
 use Rattle.task_order.specs.declared.stage.Stage.TheVariants.{New, Open, Done}
 use Rattle.task_order.specs.declared.walk.Walk.{Walk}
-use Rattle.task_order.specs.Inside.Graphs.{row, Reaches, StandsBehind}
+use Rattle.task_order.specs.Orders.{row, Reaches, StandsBehind}
 
 abbrev pub stage : List Stage → ℕ → Stage
 stage stages v = get_or stages v New

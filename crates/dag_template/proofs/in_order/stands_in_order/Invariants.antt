@@ -8,5 +8,5 @@ use Rattle.dag_template.proofs.in_order.stands_in_order.Given as goal
 abbrev pub invariant-loop-k : goal.invariant-loop-k
 invariant-loop-k l = record {
   long : length l.stands.items ≡ length l.dag.tasks;
-  settled : All (Settled (sights l.dag l.tasks) l.stands.items) (take l.k l.order);
+  settled : All (Settled (sights l.dag l.tasks) l.stands.items) (take l.k l.plan.order);
 }

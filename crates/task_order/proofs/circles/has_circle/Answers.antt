@@ -1,5 +1,6 @@
 use Rattle.std.proofs.Common.{sym, subst, ℕ, Vec, Global}
-use Rattle.task_order.specs.Inside.Graphs.{AreWithin, IsGraph}
+use Rattle.task_order.specs.Orders.{AreWithin}
+use Rattle.task_order.specs.Inside.Graphs.{IsGraph}
 use Rattle.task_order.proofs.Graphs.{graph_within}
 use Rattle.task_order.proofs.Told.{rank_told, circle_told}
 use Rattle.task_order.proofs.circles.has_circle.Goals as goal

@@ -1,7 +1,7 @@
 -- The places of the names so far are added.
 use Rattle.std.proofs.Common.{◌≡◌, ◌++◌, take}
 use Rattle.depends_expr.specs.Truth.{names_of}
-use Rattle.task_order.specs.Inside.Graphs.{places}
+use Rattle.task_order.specs.Orders.{places}
 use Rattle.task_order.proofs.graph.add_named.Given as goal
 
 abbrev pub invariant-loop-i : goal.invariant-loop-i

@@ -1,6 +1,6 @@
 -- The places of the names so far are added.
 use Rattle.std.proofs.Common.{◌≡◌, ◌++◌, take}
-use Rattle.task_order.specs.Inside.Graphs.{places}
+use Rattle.task_order.specs.Orders.{places}
 use Rattle.task_order.proofs.graph.add_places.Given as goal
 
 abbrev pub invariant-loop-i : goal.invariant-loop-i

@@ -2,7 +2,7 @@ use Rattle.std.proofs.Common.{◌≡◌, ◌∙◌, ◌<◌, ◌+◌, ◌/◌, �
 use Rattle.std.specs.List.{list_any}
 use Rattle.std.proofs.lemmas.List.{get_or_default}
 use Rattle.std.proofs.lemmas.List.Elements.{All-set}
-use Rattle.task_order.specs.Inside.Graphs.{row}
+use Rattle.task_order.specs.Orders.{row}
 use Rattle.task_order.specs.Inside.Rows.{has, bits_of}
 use Rattle.task_order.proofs.Reached.{exact_more, all_exact}
 use Rattle.task_order.proofs.places.places_waited_for.Goals as goal

@@ -1,6 +1,6 @@
 use Rattle.std.proofs.Common.{◌≡◌, Some, sym, ap, ◌∙◌, subst, arith}
 use Rattle.task_order.specs.Ancestors.{IsAncestor}
-use Rattle.task_order.specs.Inside.Graphs.{place}
+use Rattle.task_order.specs.Orders.{place}
 use Rattle.task_order.specs.Inside.Rows.{has, bits_of}
 use Rattle.task_order.proofs.NameLists.{place_reads}
 use Rattle.task_order.proofs.Reached.{bits_at}

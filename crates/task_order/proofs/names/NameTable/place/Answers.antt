@@ -1,6 +1,6 @@
 use Rattle.std.proofs.Common.{◌∙◌, ap, Bor, List, ℕ}
 use Rattle.std.specs.Prelude.{bytes_eq}
-use Rattle.task_order.specs.Inside.Graphs.{place}
+use Rattle.task_order.specs.Orders.{place}
 use Rattle.task_order.proofs.Mapped.{position_mapped}
 use Rattle.task_order.proofs.names.NameTable.place.Goals as goal
 

@@ -1,0 +1,10 @@
+pub mod Lookups
+pub mod Judging
+pub mod Values
+pub mod Befores
+pub mod Reaching
+pub mod Seen
+pub mod Writing
+pub mod Existing
+pub mod Endings
+pub mod Results

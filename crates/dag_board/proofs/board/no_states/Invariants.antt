@@ -1,0 +1,6 @@
+-- So many of them.
+use Rattle.std.proofs.Common.{◌≡◌, replicate, None}
+use Rattle.dag_board.proofs.board.no_states.Given as goal
+
+abbrev pub invariant-loop : goal.invariant-loop
+invariant-loop l = l.states.items ≡ replicate l.counter None

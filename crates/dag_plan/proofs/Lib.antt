@@ -1,0 +1,8 @@
+pub mod Names
+pub mod Parents
+pub mod Positions
+mod Marking
+mod Keeping
+pub mod Spreading
+pub mod Ancestry
+pub mod Planned

@@ -1,0 +1,2 @@
+-- What speaks only of private code.
+pub mod Marks

@@ -1,0 +1,11 @@
+//! How the tasks of a DAG are gone through: in which order, which of them exist, and which waits for which.
+#![tactic(auto)]
+
+mod marks;
+mod once;
+mod order;
+mod plan;
+mod spread;
+mod targets;
+
+pub use plan::DagPlan;
