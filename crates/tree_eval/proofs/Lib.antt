@@ -1,14 +1,3 @@
-pub mod Facts
-pub mod Walkable
-pub mod Appended
-pub mod Grown
-pub mod Turns
-pub mod Phases
-pub mod Same
-pub mod Meant
-pub mod Index
-pub mod Ends
-pub mod Begun
-pub mod Kept
-pub mod Lent
-pub mod FirstForm
+mod KindNamed
+mod Calling
+mod Running

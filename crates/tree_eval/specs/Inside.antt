@@ -1,5 +1,3 @@
 -- What speaks only of this crate's private code.
-pub mod Walkable
-pub mod Growing
-pub mod Index
-pub mod EndIndex
+pub mod Tops
+pub mod Stages

@@ -1,6 +1,6 @@
-pub mod Ends
 pub mod Told
-pub mod Forms
 pub mod Inside
 pub use Rattle.wf_manifest.specs.Valid
-pub use Rattle.wf_manifest.specs.FirstForm
+pub use Rattle.meaning.specs.Answers
+pub use Rattle.meaning.specs.Trees
+pub use Rattle.recorded.specs.Ends

@@ -1,21 +1,12 @@
-//! The node tree of a manifest over what is recorded of it, for manifests of the first form: pods and steps.
+//! The tree of a manifest over what is recorded of it: its nodes, what they ask for, which tasks may begin, and the phase
+//! of the workflow.
 #![tactic(auto)]
 
-mod bounded;
-mod ended;
-mod forms;
-mod journal;
-mod nodes;
-mod recorded;
-mod refused;
-mod tally;
-mod templates;
-mod walk;
+mod roots;
+mod stages;
+mod tops;
 mod whole;
 
-pub use ended::Ended;
-pub use forms::is_first_form;
-pub use journal::JournalIndex;
-pub use recorded::Recorded;
-pub use refused::TreeRefused;
-pub use whole::{Evaluated, evaluate, tree};
+pub use recorded::{Ended, JournalIndex, MemoAnswer, Recorded};
+pub use tree_state::TreeRefused;
+pub use whole::{Evaluated, evaluate, tree, wants};

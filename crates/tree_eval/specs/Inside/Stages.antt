@@ -1,0 +1,43 @@
+-- A workflow before it runs, and while it runs.
+use Rattle.std.specs.Prelude.{◌≡◌, ◌<◌, ◌≤◌, List, [], Bool, true, false, Option, None, Result, Ok, Err, length}
+use Rattle.base_types.specs.Limits.{most_nodes}
+use Rattle.tree_types.specs.declared.path.LockId.{LockId}
+use Rattle.tree_types.specs.declared.phase.Phase.{Phase}
+use Rattle.tree_types.specs.declared.node.Note.{Note}
+use Rattle.tree_types.specs.declared.want.Want.{Want}
+use Rattle.wf_manifest.specs.declared.manifest.Manifest.{Manifest}
+use Rattle.meaning.specs.declared.lines.Line.{Line}
+use Rattle.meaning.specs.Answers.{Answers}
+use Rattle.meaning.specs.Lines.{lines_over}
+use Rattle.meaning.specs.Trees.{pending_root, lock_granted, nodes_in, wants_in, beginnings_in}
+use Rattle.tree_state.specs.declared.refused.TreeRefused.{TreeRefused}
+use Rattle.tree_state.specs.declared.refused.TreeRefused.TheVariants.{TooLarge, Memory}
+use Rattle.tree_eval.specs.declared.whole.Evaluated.{Evaluated}
+use Rattle.tree_eval.specs.Told.{tree_of}
+
+-- what is told of these lines
+abbrev pub whole_of : List Line → Phase → Evaluated
+whole_of ls p = record { tree = tree_of (nodes_in ls); wants = wants_in ls; beginnings = beginnings_in ls; phase = p }
+
+-- that, or there are too many nodes among the lines
+abbrev pub GivesWhole : Result Evaluated TreeRefused → List Line → Phase → Type 0
+GivesWhole (Ok whole) ls p = (whole ≡ whole_of ls p) × (length (nodes_in ls) ≤ most_nodes)
+GivesWhole (Err TooLarge) ls p = most_nodes < length (nodes_in ls)
+GivesWhole (Err Memory) ls p = Unit {0}
+
+-- the root alone, and what it asks for
+abbrev pub pending_lines : Manifest → Note → List Want → List Line
+pending_lines m n ws = lines_over (pending_root m n) ws []
+
+-- a lock that is not granted
+abbrev pub unless : Bool → Option LockId → Option LockId
+unless true l = None
+unless false l = l
+
+abbrev pub awaited : Answers → Option LockId → Option LockId
+awaited A l = unless (A.granted []) l
+
+-- the workflow is started, and its own lock, if it has one, is granted
+pub record Runs (m : Manifest) (A : Answers) : Type 0 where
+  pub started : A.started ≡ true
+  pub granted : lock_granted A m.lock ≡ true

@@ -1,0 +1,72 @@
+//! A workflow before it runs, and while it runs.
+
+ghost use Rattle.std.specs.Prelude.{◌≡◌, [], ◌∷◌, IfOk, option_copied};
+ghost use Rattle.tree_types.specs.declared.phase.Phase.TheVariants as phases;
+ghost use Rattle.tree_types.specs.declared.node.Note.TheVariants as notes;
+ghost use Rattle.tree_types.specs.declared.want.Want.TheVariants as asked;
+ghost use Rattle.wf_manifest.specs.Valid.{Valid};
+ghost use Rattle.meaning.specs.Answers.{path};
+ghost use Rattle.meaning.specs.Trees as trees;
+ghost use Rattle.tree_eval.specs.Inside.Stages as inside;
+
+use crate::Evaluated;
+use crate::roots::{root_kind, root_place};
+use crate::tops::Tops;
+use base_types::{Memory, TryCopy};
+use call_nodes::bare;
+use hooks_exit::law::phase_is_meant;
+use recorded::Recorded;
+use tree_state::{Told, TreeRefused};
+use tree_types::{LockId, Note, Path, Phase, Sels, Want, Wants};
+use wf_manifest::Manifest;
+
+/// The root alone, with this note, and what it asks for.
+pub fn pending(manifest: &Manifest, note: Note, wants: &Wants) -> Result<Evaluated, Memory>
+    ensures { IfOk result (λ whole.
+        whole ≡ inside.whole_of (inside.pending_lines manifest.now note wants.now) phases.Pending) }
+{
+    let place = root_place(manifest)?;
+    let node = bare(place, root_kind(manifest), Phase::Pending, note);
+    let mut told = Told::new(manifest.name.allocator());
+    told.add_node(&node, wants)?;
+    Ok(Evaluated::of(told, Phase::Pending))
+}
+
+/// The root alone, which waits for the workflow's own lock.
+pub fn waiting(manifest: &Manifest, lock: &LockId) -> Result<Evaluated, Memory>
+    ensures { IfOk result (λ whole. whole ≡ inside.whole_of (inside.pending_lines manifest.now
+        (notes.Waiting lock.now) (asked.Lock (path []) lock.now ∷ [])) phases.Pending) }
+{
+    let alloc = manifest.name.allocator();
+    let path = Path {
+        sels: Sels::new(alloc),
+    };
+    let mut wants = Wants::new(alloc);
+    wants.push(Want::Lock(path, lock.copy()?))?;
+    pending(manifest, Note::Waiting(lock.copy()?), &wants)
+}
+
+/// The workflow's own lock, while it is not granted.
+pub fn awaited<'a, R: Recorded>(manifest: &'a Manifest, recorded: &R) -> Option<&'a LockId>
+    ensures { option_copied result ≡ inside.awaited (R.answers recorded.now) manifest.now.lock }
+{
+    let own = Sels::new(manifest.name.allocator());
+    if recorded.granted(&own) {
+        None
+    } else {
+        manifest.lock.as_ref()
+    }
+}
+
+/// What the entrypoint makes, and the exit handler where it runs.
+pub fn running<R: Recorded>(manifest: &Manifest, recorded: &R) -> Result<Evaluated, TreeRefused>
+    requires valid { Valid manifest.now }
+    requires runs { inside.Runs manifest.now (R.answers recorded.now) }
+    ensures { let answers = R.answers recorded.now in
+        inside.GivesWhole result (trees.lines manifest.now answers) (trees.phase manifest.now answers) }
+{
+    phase_is_meant();
+    let tops = Tops::of(manifest, recorded)?;
+    let told = tops.tell(manifest.name.allocator())?;
+    Ok(Evaluated::of(told, tops.phase()))
+}

@@ -1,0 +1,151 @@
+//! What the entrypoint makes, and the exit handler.
+
+ghost use Rattle.std.specs.Prelude.{◌≡◌, IfOk, OnOk, option_copied};
+ghost use Rattle.scopes.specs.Values.{HasValuesOf};
+ghost use Rattle.meaning.specs.Trees as trees;
+ghost use Rattle.wf_manifest.specs.Valid.{Valid};
+ghost use Rattle.tree_state.specs.Counting.{Gives};
+ghost use Rattle.tree_state.specs.Telling.{no_lines, told_with};
+ghost use Rattle.tree_walk.specs.Index.{IsReady};
+ghost use Rattle.tree_eval.specs.Inside.Tops as inside;
+
+use crate::roots::{exit_place, root_place};
+use base_types::{Memory, Text};
+use call_texts::{status_scope, workflow_scope};
+use hooks_exit::workflow_phase;
+use recorded::Recorded;
+use scopes::Scope;
+use std::alloc::Global;
+use tree_state::{Room, State, Told, TreeRefused};
+use tree_types::Phase;
+use tree_walk::{Positions, positions_of, top_state};
+use wf_manifest::Manifest;
+
+/// What the entrypoint makes, and the exit handler where it runs: once the entrypoint is finished.
+#[derive(Drop)]
+pub struct Tops {
+    pub main: State,
+    pub exit: Option<State>,
+}
+
+fn main_state<R: Recorded>(
+    manifest: &Manifest,
+    positions: &Positions,
+    globals: &Scope,
+    recorded: &R,
+    room: &mut Room,
+) -> Result<State, TreeRefused>
+    requires ready { IsReady manifest.now positions.now }
+    requires said { HasValuesOf globals.now (trees.globals_of manifest.now) }
+    ensures { Gives room.old room.new result
+        (trees.main_made manifest.now (R.answers recorded.now)) }
+{
+    let place = root_place(manifest)?;
+    let template = &manifest.entrypoint;
+    top_state(
+        manifest, positions, globals, recorded, place, template, room,
+    )
+}
+
+// What the exit handler makes. Its texts see the phase of the entrypoint's node.
+fn exit_state<R: Recorded>(
+    manifest: &Manifest,
+    positions: &Positions,
+    globals: &Scope,
+    recorded: &R,
+    main: &State,
+    template: &Text,
+    room: &mut Room,
+) -> Result<State, TreeRefused>
+    requires ready { IsReady manifest.now positions.now }
+    requires said { HasValuesOf globals.now (trees.globals_of manifest.now) }
+    ensures { Gives room.old room.new result
+        (trees.exit_made manifest.now (R.answers recorded.now) main.now template.now) }
+{
+    let place = exit_place(manifest)?;
+    let scope = status_scope(manifest.name.allocator(), globals, main.phase())?;
+    top_state(manifest, positions, &scope, recorded, place, template, room)
+}
+
+// The template of the exit handler, once the entrypoint is finished.
+fn handler<'a>(manifest: &'a Manifest, main: &State) -> Option<&'a Text>
+    ensures { option_copied result ≡ inside.once main.now.own.finished manifest.now.on_exit }
+{
+    if main.is_finished() {
+        manifest.on_exit.as_ref()
+    } else {
+        None
+    }
+}
+
+fn exit_once<R: Recorded>(
+    manifest: &Manifest,
+    positions: &Positions,
+    globals: &Scope,
+    recorded: &R,
+    main: &State,
+    room: &mut Room,
+) -> Result<Option<State>, TreeRefused>
+    requires ready { IsReady manifest.now positions.now }
+    requires said { HasValuesOf globals.now (trees.globals_of manifest.now) }
+    ensures { inside.GivesExit room.old room.new result
+        (trees.exit_of manifest.now (R.answers recorded.now) main.now) }
+{
+    match handler(manifest, main) {
+        None => Ok(None),
+        Some(template) => {
+            let exit = exit_state(manifest, positions, globals, recorded, main, template, room)?;
+            Ok(Some(exit))
+        }
+    }
+}
+
+impl Tops {
+    /// Walks over the manifest: no more nodes are made than a tree may have.
+    pub fn of<R: Recorded>(manifest: &Manifest, recorded: &R) -> Result<Tops, TreeRefused>
+        requires valid { Valid manifest.now }
+        ensures { inside.GivesTops result manifest.now (R.answers recorded.now) }
+    {
+        let positions = positions_of(manifest)?;
+        let globals = workflow_scope(manifest.name.allocator(), manifest)?;
+        let mut room = Room::new();
+        let main = main_state(manifest, &positions, &globals, recorded, &mut room)?;
+        let exit = exit_once(manifest, &positions, &globals, recorded, &main, &mut room)?;
+        Ok(Tops { main, exit })
+    }
+
+    /// The phase of a workflow that runs.
+    pub fn phase(&self) -> Phase
+        ensures { result ≡ inside.phase_of self.now }
+    {
+        workflow_phase(self.main.phase(), exit_phase(&self.exit))
+    }
+
+    /// The lines of both, kind by kind.
+    pub fn tell(&self, alloc: Global) -> Result<Told, Memory>
+        ensures { IfOk result (λ told. told ≡ told_with no_lines (inside.lines_of self.now)) }
+    {
+        let mut told = Told::new(alloc);
+        self.main.tell(&mut told)?;
+        tell_exit(&self.exit, &mut told)?;
+        Ok(told)
+    }
+}
+
+fn exit_phase(exit: &Option<State>) -> Option<Phase>
+    ensures { result ≡ inside.exit_phase exit.now }
+{
+    match exit {
+        None => None,
+        Some(exit) => Some(exit.phase()),
+    }
+}
+
+fn tell_exit(exit: &Option<State>, told: &mut Told) -> Result<(), Memory>
+    ensures { OnOk result (told.new ≡ told_with told.old (trees.exit_lines exit.now)) }
+{
+    match exit {
+        None => Ok(()),
+        Some(exit) => exit.tell(told),
+    }
+}

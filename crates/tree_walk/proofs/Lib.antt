@@ -1,0 +1,9 @@
+mod Calling
+mod Dags
+mod Groups
+mod Hooking
+mod Index
+mod Rooms
+mod Sums
+mod Tasks
+mod Walkable

@@ -1,0 +1,13 @@
+-- A template that is found is one of the manifest's, which may be walked over.
+use Rattle.std.proofs.Common.{◌≡◌, Option, Some, None, IfSome, ap, ◌∙◌, sym, Bor}
+use Rattle.std.specs.Prelude.{bytes_eq, option_copied}
+use Rattle.wf_manifest.specs.declared.templates.Template.{Template}
+use Rattle.wf_manifest.proofs.Each.{All-found}
+use Rattle.meaning.specs.Calls.{template_named}
+use Rattle.tree_walk.specs.Inside.Walkable.{IsWalkable}
+use Rattle.tree_walk.proofs.Walkable.{walkable_templates, walkable_found}
+use Rattle.tree_walk.proofs.walk.Walk.template_of.Goals as goal
+
+pub returns-clause-walkable : goal.returns-clause-walkable
+returns-clause-walkable g c =
+    walkable_found c.args.self.now.manifest.now c.args.name.now c.find_template.result c.requires.ready.valid c.find_template.ensures

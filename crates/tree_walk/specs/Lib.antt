@@ -1,0 +1,5 @@
+pub mod Inside
+pub mod Index
+pub use Rattle.wf_manifest.specs.Valid
+pub use Rattle.meaning.specs.Calls
+pub use Rattle.meaning.specs.Trees
