@@ -2,14 +2,13 @@
 
 ghost use Rattle.std.specs.Prelude.{All};
 ghost use Rattle.wf_manifest.specs.Valid.{Valid};
-ghost use Rattle.wf_manifest.specs.FirstForm.{IsFirstForm};
 
 use base_types::{Bytes, List, Memory, Text, TryCopy};
 use serde_json::Value;
 use state_calls::{notes, plain_notes};
 use std::alloc::Global;
 use std::test::Fail;
-use tree_eval::{JournalIndex, evaluate, is_first_form, tree};
+use tree_eval::{JournalIndex, evaluate, tree, wants};
 use tree_print::print_tree;
 use tree_types::{
     Fact, Journal, Kind, Node, Nodes, Note, Outcome, Outputs, Params, Path, Phase, Sel, Sels, Tree,
@@ -72,13 +71,16 @@ fn journal(alloc: Global, known: Known) -> Result<Journal, Memory> {
 /// The text of a workflow's tree.
 fn printed(alloc: Global, manifest: &Manifest, journal: &Journal) -> Result<Bytes, Fail>
     requires valid { Valid manifest.now }
-    requires first { IsFirstForm manifest.now }
 {
     let recorded = JournalIndex::new(journal)?;
     let alone = tree(manifest, &recorded)?;
+    let asked = wants(manifest, &recorded)?;
     let evaluated = evaluate(manifest, &recorded)?;
     if alone.nodes.len() != evaluated.tree.nodes.len() {
         return Err(Fail::new("two trees"));
+    }
+    if asked.len() != evaluated.wants.len() {
+        return Err(Fail::new("other wants"));
     }
     Ok(print_tree(alloc, &manifest.name, evaluated.phase, &evaluated.tree)?)
 }
@@ -88,14 +90,7 @@ fn printed_first(alloc: Global, document: &Document, journal: &Journal) -> Resul
     requires valid { All Valid document.now.workflows }
 {
     match document.workflows.as_slice() {
-        [valid] => {
-            let manifest = valid.manifest();
-            if is_first_form(manifest) {
-                printed(alloc, manifest, journal)
-            } else {
-                Err(Fail::new("another form"))
-            }
-        }
+        [valid] => printed(alloc, valid.manifest(), journal),
         _ => Err(Fail::new("another number of workflows")),
     }
 }

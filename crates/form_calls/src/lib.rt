@@ -1,4 +1,4 @@
-//! Tests alone: the public calls on documents and on trees of the first form, run with ample memory against values from outside.
+//! Tests alone: the public calls on documents and on trees, run with ample memory against values from outside.
 #![tactic(auto)]
 
 #[cfg(test)]

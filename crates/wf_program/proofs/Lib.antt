@@ -1,4 +1,3 @@
 mod Within
 mod Ended
-mod Plain
 mod Turns

@@ -4,8 +4,8 @@ use Rattle.std.specs.Prelude.{Result, Ok, Err, nat_le, nat_lt, if◌then◌else�
 use Rattle.std.proofs.lemmas.Bool.{leb-true, leb-false, le-ltb, lt-ltb}
 use Rattle.base_types.specs.Limits.{most_nodes}
 use Rattle.tree_types.specs.declared.node.Node.{Node}
-use Rattle.tree_eval.specs.declared.refused.TreeRefused.{TreeRefused}
-use Rattle.tree_eval.specs.declared.refused.TreeRefused.TheVariants.{TooLarge}
+use Rattle.tree_state.specs.declared.refused.TreeRefused.{TreeRefused}
+use Rattle.tree_state.specs.declared.refused.TreeRefused.TheVariants.{TooLarge}
 use Rattle.tree_eval.specs.declared.whole.Evaluated.{Evaluated}
 use Rattle.tree_eval.specs.Told.{within}
 

@@ -13,7 +13,7 @@ use Rattle.meaning.specs.Plain.{Planned, planned_answers, plain}
 use Rattle.command_words.specs.declared.order.Mode.{Mode}
 use Rattle.command_words.specs.declared.order.Mode.TheVariants as mode
 use Rattle.command_words.specs.declared.order.Order.{Order}
-use Rattle.bundle_rules.specs.Findings.{Found, Refused}
+use Rattle.bundle_rules.specs.Findings.{Found}
 use Rattle.wf_bundle.specs.declared.document.Document.{Document}
 use Rattle.wf_bundle.specs.Documents.{document_of}
 use Rattle.wf_bundle.specs.Outcomes.{planned}

@@ -3,13 +3,14 @@
 ghost use Rattle.std.specs.Prelude.{◌≡◌};
 ghost use Rattle.tree_types.specs.declared.node.Note.TheVariants as note;
 ghost use Rattle.meaning.specs.Plain.{planned_answers};
-ghost use Rattle.tree_eval.specs.Ends.{end_of};
+ghost use Rattle.recorded.specs.Ends.{end_of};
 ghost use Rattle.wf_bundle.specs.Outcomes.{outcome_of, planned};
 
 use base_types::Text;
 use item_reader::PlannedOutcome;
 use meaning::Place;
-use tree_eval::{Ended, Recorded};
+use recorded::{Ended, MemoAnswer, Recorded};
+use tree_types::Sels;
 use wf_bundle::Outcomes;
 
 /// A started workflow, whose pods end as it is planned for their names.
@@ -46,5 +47,29 @@ impl Recorded for PlannedRun<'_> {
             None => None,
             Some(outcome) => Some(ended(outcome)),
         }
+    }
+
+    fn granted(&self, _sels: &Sels) -> bool {
+        false
+    }
+
+    fn memo(&self, _sels: &Sels) -> Option<MemoAnswer<'_>> {
+        None
+    }
+
+    fn armed(&self, _sels: &Sels) -> Option<u64> {
+        None
+    }
+
+    fn due(&self, _sels: &Sels) -> bool {
+        false
+    }
+
+    fn resumed(&self, _sels: &Sels) -> bool {
+        false
+    }
+
+    fn begun(&self, _sels: &Sels) -> bool {
+        false
     }
 }

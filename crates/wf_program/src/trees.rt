@@ -2,7 +2,6 @@
 
 ghost use Rattle.std.specs.Prelude.{◌≡◌, ◌++◌, [], false, is_none, IfOk, IfSome, OnOk, All};
 ghost use Rattle.wf_manifest.specs.Valid.{Valid};
-ghost use Rattle.wf_manifest.specs.FirstForm.{IsFirstForm};
 ghost use Rattle.wf_program.specs.Answers as answers;
 ghost use Rattle.wf_program.specs.Inside.Trees as inside;
 
@@ -31,7 +30,6 @@ fn tree_text(
     manifest: &Manifest,
 ) -> Result<Option<Bytes>, Memory>
     requires valid { Valid manifest.now }
-    requires first { IsFirstForm manifest.now }
     ensures large { IfOk result (λ text. is_none text ≡ answers.is_too_large document.now manifest.now) }
     ensures text { IfOk result (λ text. IfSome text (λ t. t ≡ answers.text_of document.now manifest.now)) }
 {
@@ -91,7 +89,6 @@ impl Trees {
     // Adds a workflow. The text counts only where no tree is too large.
     fn add(&mut self, alloc: Global, document: &Document, manifest: &Manifest) -> Result<(), Memory>
         requires valid { Valid manifest.now }
-        requires first { IsFirstForm manifest.now }
         ensures { OnOk result (inside.IsAdded document.now manifest.now self.old self.new) }
     {
         let text = tree_text(alloc, document, manifest)?;
@@ -106,7 +103,6 @@ impl Trees {
 #[tactic(auto, using(crate::proofs::Turns::all_added))]
 fn trees_of(alloc: Global, document: &Document) -> Result<Trees, Memory>
     requires valid { All Valid document.now.workflows }
-    requires first { All IsFirstForm document.now.workflows }
     ensures { IfOk result (λ trees. inside.AreTrees document.now trees) }
 {
     let mut trees = Trees::new(alloc);
@@ -120,7 +116,6 @@ fn trees_of(alloc: Global, document: &Document) -> Result<Trees, Memory>
 /// The trees of the document's workflows, or which of them are too large.
 pub(crate) fn run_answer(alloc: Global, document: &Document) -> Result<Answered, Memory>
     requires valid { All Valid document.now.workflows }
-    requires first { All IsFirstForm document.now.workflows }
     ensures { IfOk result (λ answered. answered ≡ answers.run_answer document.now) }
 {
     let trees = trees_of(alloc, document)?;

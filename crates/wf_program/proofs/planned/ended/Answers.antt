@@ -1,5 +1,5 @@
 use Rattle.tree_types.specs.declared.node.Note.TheVariants as note
-use Rattle.tree_eval.proofs.Lent.{end_kept}
+use Rattle.recorded.proofs.Lent.{end_kept}
 use Rattle.wf_bundle.specs.Outcomes.{outcome_of}
 use Rattle.wf_program.proofs.planned.ended.Goals as goal
 

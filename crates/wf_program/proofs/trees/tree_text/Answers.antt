@@ -1,6 +1,6 @@
 use Rattle.std.proofs.Common.{rules, ◌∙◌, ap, sym}
 use Rattle.tree_types.specs.Texts.{tree_text}
-use Rattle.meaning.specs.Trees.{phase}
+use Rattle.meaning.specs.Trees.{lines, wants_in, beginnings_in, phase}
 use Rattle.meaning.specs.Plain.{planned_answers}
 use Rattle.tree_eval.specs.declared.whole.Evaluated.{Evaluated}
 use Rattle.tree_eval.specs.Told.{tree_of}
@@ -11,7 +11,14 @@ use Rattle.wf_program.proofs.Within.{within_ok, within_err}
 use Rattle.wf_program.proofs.trees.tree_text.Goals as goal
 
 abbrev whole : Document → Manifest → Evaluated
-whole D m = record { tree = tree_of (nodes_of D m); phase = phase m (planned_answers (planned_in D m)) }
+whole D m =
+    let A = planned_answers (planned_in D m) in
+    record {
+      tree = tree_of (nodes_of D m);
+      wants = wants_in (lines m A);
+      beginnings = beginnings_in (lines m A);
+      phase = phase m A;
+    }
 
 pub returns-in_ok-print_tree-in-Ok-clause-large : goal.returns-in_ok-print_tree-in-Ok-clause-large
 returns-in_ok-print_tree-in-Ok-clause-large c =
