@@ -1,3 +1,5 @@
 pub mod Counts
 mod Kids
+mod Firsts
+mod Sums
 pub mod Tellings

@@ -40,7 +40,7 @@ pub told_none : (t : Told) → told_with t [] ≡ t
 told_none t = λ i. record { nodes = append-nil t.nodes i; wants = append-nil t.wants i; beginnings = append-nil t.beginnings i }
 
 -- one kid's lines, and those of the kids behind it
-kid_lines : (l : Option Line') (s : Option (Arc Made Global)) (more : Parts) →
+pub kid_lines : (l : Option Line') (s : Option (Arc Made Global)) (more : Parts) →
     lines_below (line_then l (state_then s more)) ≡ lines_below (line_then l (state_then s nothing)) ++ lines_below more
 kid_lines l s more = sym (ap lines_below (kid_then l s nothing more)) ∙ lines_then (line_then l (state_then s nothing)) more
 

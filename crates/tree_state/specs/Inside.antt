@@ -1,3 +1,4 @@
 -- What speaks only of private code.
 pub mod Kids
 pub mod Lower
+pub mod Sums

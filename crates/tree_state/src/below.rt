@@ -2,11 +2,14 @@
 
 ghost use Rattle.std.specs.Prelude.{◌≡◌, [], ◌∷◌, OnOk};
 ghost use Rattle.std.specs.Prelude.{Some};
-ghost use Rattle.meaning.specs.Lines.{nothing, may_begin, asks, row_of, then_parts};
+ghost use Rattle.meaning.specs.Lines.{nothing, may_begin, asks, row_of, then_parts, lines_below};
 ghost use Rattle.tree_state.specs.Inside.Kids.{line_then};
+ghost use Rattle.tree_state.specs.Inside.Sums.{asks_in};
 
 use crate::State;
+use crate::kinds::Asks;
 use crate::state::{Kid, Line};
+use crate::sum::Sum;
 use base_types::Memory;
 use std::alloc::Global;
 use std::marker::Model;
@@ -17,9 +20,11 @@ use tree_types::{Path, Want};
 #[derive(Debug, Drop)]
 pub struct Below {
     pub(crate) kids: Vec<Kid>,
+    pub(crate) sum: Sum,
 }
 
 impl Model for Below {
+    ghost use Rattle.std.specs.Prelude.{◌≡◌};
     ghost use Rattle.meaning.specs.Lines.{Parts};
     ghost use Rattle.tree_state.specs.MadeCode.{parts_code};
 
@@ -28,8 +33,11 @@ impl Model for Below {
     ghost coded = { parts_code };
 
     ghost use Rattle.tree_state.specs.Inside.Kids.{parts_of};
+    ghost use Rattle.tree_state.specs.Inside.Sums.{sum_of};
 
     ghost view = { λ a. parts_of a.kids.items };
+
+    ghost invariant = { λ a. a.sum ≡ sum_of (parts_of a.kids.items) };
 }
 
 impl Below {
@@ -39,6 +47,7 @@ impl Below {
     {
         Below {
             kids: Vec::new(alloc),
+            sum: Sum::nothing(),
         }
     }
 
@@ -47,8 +56,10 @@ impl Below {
         ensures { OnOk result (self.new ≡ then_parts self.old (row_of (state ∷ []))) }
     {
         let alloc = *self.kids.allocator();
+        let sum = self.sum.and(state.count(), state.asks())?;
         let state = Some(Arc::new(alloc, state)?);
         self.kids.push(Kid { line: None, state })?;
+        self.sum = sum;
         Ok(())
     }
 
@@ -69,10 +80,22 @@ impl Below {
     fn line(&mut self, line: Line) -> Result<(), Memory>
         ensures { OnOk result (self.new ≡ then_parts self.old (line_then (Some line) nothing)) }
     {
+        let sum = self.sum.and(0, asks_of(&line))?;
         self.kids.push(Kid {
             line: Some(line),
             state: None,
         })?;
+        self.sum = sum;
         Ok(())
+    }
+}
+
+// What a line that is no call's asks for.
+fn asks_of(line: &Line) -> Asks
+    ensures { result ≡ asks_in (lines_below (line_then (Some line.now) nothing)) }
+{
+    match line {
+        Line::MayBegin(_) => Asks::beginning(),
+        Line::Asks(want) => Asks::one(want),
     }
 }

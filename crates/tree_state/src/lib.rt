@@ -2,13 +2,16 @@
 #![tactic(auto)]
 
 mod below;
+mod kinds;
 mod law;
 mod refused;
 mod room;
 mod state;
+mod sum;
 mod told;
 
 pub use below::Below;
+pub use kinds::WantKind;
 pub use law::counts_nodes;
 pub use refused::TreeRefused;
 pub use room::Room;

@@ -1,11 +1,18 @@
 //! What a call makes.
 
-ghost use Rattle.std.specs.Prelude.{◌≡◌, [], ◌∷◌, OnOk};
+ghost use Rattle.std.specs.Prelude.{◌≡◌, ◌≤◌, ◌^◌, [], ◌∷◌, OnOk, map, option_copied};
+ghost use Rattle.std.specs.List.{find};
+ghost use Rattle.meaning.specs.Trees.{wants_in, beginnings_in};
+ghost use Rattle.tree_state.specs.Asking.{is_of, first};
 ghost use Rattle.tree_types.specs.Phases as phases;
 ghost use Rattle.meaning.specs.Lines as lines;
 ghost use Rattle.meaning.specs.Calls as calls;
+ghost use Rattle.meaning.specs.declared.lines.Line.TheVariants as line;
+ghost use Rattle.tree_state.specs.Inside.Sums.{asks_in};
 
-use crate::{Below, Told};
+use crate::kinds::Asks;
+use crate::sum::Sum;
+use crate::{Below, Told, WantKind};
 use base_types::{Memory, TryCopy};
 use std::marker::Model;
 use std::sync::Arc;
@@ -37,9 +44,11 @@ pub struct State {
     any_succeeded: bool,
     all_failed: bool,
     kids: Vec<Kid>,
+    sum: Sum,
 }
 
 impl Model for State {
+    ghost use Rattle.std.specs.Prelude.{◌≡◌};
     ghost use Rattle.meaning.specs.Lines.{Made};
     ghost use Rattle.tree_state.specs.MadeCode.{made_code};
 
@@ -48,6 +57,7 @@ impl Model for State {
     ghost coded = { made_code };
 
     ghost use Rattle.tree_state.specs.Inside.Kids.{parts_of};
+    ghost use Rattle.tree_state.specs.Inside.Sums.{sum_of};
 
     ghost view = { λ a. record {
       own = record {
@@ -60,6 +70,8 @@ impl Model for State {
       parts = parts_of a.kids.items;
     } };
 
+    ghost invariant = { λ a. a.sum ≡ sum_of (parts_of a.kids.items) };
+
     ghost use Rattle.tree_state.specs.Counting.{count};
 
     ghost size = { count };
@@ -70,8 +82,20 @@ impl Model for State {
     ghost size_decreases = { λ a h. Prim.omega (arith, kids_are_lower a.kids.items) };
 }
 
+// Which kinds of wants a node asks for.
+fn asks_of_node(wants: &Wants) -> Asks
+    ensures { result ≡ asks_in (map line.Asks wants.now) }
+{
+    let mut asks = Asks::nothing();
+    for want in wants.as_slice() {
+        asks = asks.and(Asks::one(want));
+    }
+    asks
+}
+
 impl State {
     ghost use Rattle.tree_state.specs.Telling.{told_with};
+    ghost use Rattle.tree_state.specs.Counting.{count};
     ghost use Rattle.tree_state.specs.Making.{of_loop, with_want};
 
     /// A node with what it asks for and what stands below it.
@@ -85,6 +109,7 @@ impl State {
             node,
             wants,
             kids: below.kids,
+            sum: below.sum,
         }
     }
 
@@ -100,6 +125,7 @@ impl State {
             node,
             wants: Wants::new(alloc),
             kids: below.kids,
+            sum: below.sum,
         }
     }
 
@@ -109,8 +135,10 @@ impl State {
     {
         let finished = hook.finished;
         let alloc = self.node.name.allocator();
+        let sum = self.sum.and(hook.count(), hook.asks())?;
         let state = Some(Arc::new(alloc, hook)?);
         self.kids.push(Kid { line: None, state })?;
+        self.sum = sum;
         self.finished = finished;
         Ok(())
     }
@@ -163,6 +191,56 @@ impl State {
         self.all_failed
     }
 
+    /// How many nodes the call has, its own among them.
+    pub fn count(&self) -> usize
+        ensures all { result ≡ count self.now }
+        ensures few { result ≤ 2 ^ 32 }
+    {
+        self.sum.nodes as usize + 1
+    }
+
+    // Which kinds of wants the call asks for.
+    pub(crate) fn asks(&self) -> Asks
+        ensures { result ≡ asks_in (lines.lines_in self.now) }
+    {
+        asks_of_node(&self.wants).and(self.sum.asks)
+    }
+
+    /// The first want of a kind, in tree order. What has none of the kind is not looked through.
+    #[cycle(first_want)]
+    pub fn first_want(&self, kind: WantKind) -> Option<&Want>
+        ensures { option_copied result ≡ find (is_of kind) (wants_in (lines.lines_in self.now)) }
+    {
+        if let Some(want) = first_of(&self.wants, kind) {
+            return Some(want);
+        }
+        if !self.sum.asks.of(kind) {
+            return None;
+        }
+        for kid in &self.kids {
+            if let Some(want) = kid.first_want(kind) {
+                return Some(want);
+            }
+        }
+        None
+    }
+
+    /// The first task that may begin, in tree order. What has none is not looked through.
+    #[cycle(first_beginning)]
+    pub fn first_beginning(&self) -> Option<&Path>
+        ensures { option_copied result ≡ first (beginnings_in (lines.lines_in self.now)) }
+    {
+        if !self.sum.asks.beginnings {
+            return None;
+        }
+        for kid in &self.kids {
+            if let Some(path) = kid.first_beginning() {
+                return Some(path);
+            }
+        }
+        None
+    }
+
     /// Tells the lines of the call in tree order.
     #[cycle(tell)]
     pub fn tell(&self, told: &mut Told) -> Result<(), Memory>
@@ -176,8 +254,71 @@ impl State {
     }
 }
 
+// The first want of a kind.
+fn first_of(wants: &Wants, kind: WantKind) -> Option<&Want>
+    ensures { option_copied result ≡ find (is_of kind) wants.now }
+{
+    for want in wants.as_slice() {
+        if kind.is_of(want) {
+            return Some(want);
+        }
+    }
+    None
+}
+
 impl Kid {
     ghost use Rattle.meaning.specs.Lines.{lines_below, nothing};
+
+    // A want of the kid's own line, if it is of this kind.
+    fn own_want(&self, kind: WantKind) -> Option<&Want>
+        ensures { option_copied result
+            ≡ find (is_of kind) (wants_in (lines_below (line_then self.now.line nothing))) }
+    {
+        match &self.line {
+            Some(Line::Asks(want)) => { if kind.is_of(want) { Some(want) } else { None } }
+            _ => None,
+        }
+    }
+
+    #[cycle(first_want)]
+    fn first_want(&self, kind: WantKind) -> Option<&Want>
+        ensures { option_copied result ≡ find (is_of kind) (wants_in
+            (lines_below (line_then self.now.line (state_then self.now.state nothing)))) }
+    {
+        if let Some(want) = self.own_want(kind) {
+            return Some(want);
+        }
+        match &self.state {
+            None => None,
+            Some(state) => state.first_want(kind),
+        }
+    }
+
+    // The task of the kid's own line.
+    fn own_beginning(&self) -> Option<&Path>
+        ensures { option_copied result
+            ≡ first (beginnings_in (lines_below (line_then self.now.line nothing))) }
+    {
+        match &self.line {
+            Some(Line::MayBegin(path)) => Some(path),
+            _ => None,
+        }
+    }
+
+    #[cycle(first_beginning)]
+    fn first_beginning(&self) -> Option<&Path>
+        ensures { option_copied result ≡ first (beginnings_in
+            (lines_below (line_then self.now.line (state_then self.now.state nothing)))) }
+    {
+        if let Some(path) = self.own_beginning() {
+            return Some(path);
+        }
+        match &self.state {
+            None => None,
+            Some(state) => state.first_beginning(),
+        }
+    }
+
     ghost use Rattle.tree_state.specs.Telling.{told_with};
     ghost use Rattle.tree_state.specs.Inside.Kids.{line_then, state_then};
 

@@ -1,9 +1,17 @@
-use Rattle.std.proofs.Common.{◌≡◌, [], ◌∷◌, Some, None, Bool, ap, ◌∙◌}
+use Rattle.std.proofs.Common.{◌≡◌, List, [], ◌∷◌, Some, None, Bool, sym, ap, ◌∙◌}
 use Rattle.meaning.specs.Lines.{Parts, Made, row_of, then_parts}
 use Rattle.meaning.specs.Calls.{then_hook}
+use Rattle.tree_state.specs.declared.state.Kid.{Kid}
 use Rattle.tree_state.specs.Inside.Kids.{parts_of}
+use Rattle.tree_state.specs.Inside.Sums.{sum_of}
 use Rattle.tree_state.proofs.Kids.{pushed}
+use Rattle.tree_state.proofs.Sums.{state_kept}
 use Rattle.tree_state.proofs.state.State.add_hook.Goals as goal
+
+pub invariant_of-self-2 : goal.invariant_of-self-2
+invariant_of-self-2 c =
+    state_kept c.self.inside.kids.items c.args.hook c.in_ok-new.field-0 c.self.inside.sum c.in_ok-sum.sum c.count.result c.asks.result c.self.invariant c.count.ensures.all c.asks.ensures c.in_ok-new.ensures.ok c.in_ok-sum.ensures
+    ∙ sym (ap (λ (ks : List Kid). sum_of (parts_of ks)) c.in_ok-push.ensures.items)
 
 pub returns : goal.returns
 returns c =

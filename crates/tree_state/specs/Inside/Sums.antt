@@ -1,0 +1,50 @@
+-- What is kept of the lines below a node: how many nodes stand there, and which kinds of lines.
+use Rattle.std.specs.Prelude.{Bool, true, ◌||◌, List}
+use Rattle.std.specs.List.{list_any}
+use Rattle.meaning.specs.declared.lines.Line.{Line}
+use Rattle.meaning.specs.Lines.{Parts, lines_below}
+use Rattle.meaning.specs.Trees.{beginnings_in}
+use Rattle.tree_state.specs.declared.kinds.WantKind.{WantKind}
+use Rattle.tree_state.specs.declared.kinds.WantKind.TheVariants.{Pod, Lock, LookUp, Arming, Timer, Save}
+use Rattle.tree_state.specs.declared.kinds.Asks.{Asks}
+use Rattle.tree_state.specs.declared.sum.Sum.{Sum}
+use Rattle.tree_state.specs.Asking.{ask_for}
+use Rattle.tree_state.specs.Counting.{count_below}
+
+-- some line says that a task may begin
+abbrev pub let_begin : List Line → Bool
+let_begin ls = list_any (λ p. true) (beginnings_in ls)
+
+abbrev pub asks_in : List Line → Asks
+asks_in ls = record {
+  pods = ask_for Pod ls;
+  locks = ask_for Lock ls;
+  look_ups = ask_for LookUp ls;
+  armings = ask_for Arming ls;
+  timers = ask_for Timer ls;
+  saves = ask_for Save ls;
+  beginnings = let_begin ls;
+}
+
+-- those of the one and of the other
+abbrev pub both_ask : Asks → Asks → Asks
+both_ask a b = record {
+  pods = a.pods || b.pods;
+  locks = a.locks || b.locks;
+  look_ups = a.look_ups || b.look_ups;
+  armings = a.armings || b.armings;
+  timers = a.timers || b.timers;
+  saves = a.saves || b.saves;
+  beginnings = a.beginnings || b.beginnings;
+}
+
+abbrev pub asks_of : WantKind → Asks → Bool
+asks_of Pod a = a.pods
+asks_of Lock a = a.locks
+asks_of LookUp a = a.look_ups
+asks_of Arming a = a.armings
+asks_of Timer a = a.timers
+asks_of Save a = a.saves
+
+abbrev pub sum_of : Parts → Sum
+sum_of p = record { nodes = count_below p; asks = asks_in (lines_below p) }
