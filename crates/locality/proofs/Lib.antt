@@ -1,0 +1,6 @@
+pub mod Paths
+pub mod Answered
+pub mod Leaves
+pub mod Rows
+pub mod Dags
+pub mod Calls
