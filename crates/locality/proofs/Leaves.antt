@@ -3,10 +3,11 @@ use Rattle.std.proofs.Common.{◌≡◌, ℕ, zero, suc, ◌+◌, ◌<◌, ◌�
 use Rattle.tree_types.specs.declared.path.Sel.TheVariants.{Attempt}
 use Rattle.tree_types.specs.declared.node.Note.{Note}
 use Rattle.tree_types.specs.declared.outcome.Outcome.{Outcome}
+use Rattle.tag_text.specs.declared.part.Part.{Part}
 use Rattle.wf_manifest.specs.declared.templates.OutputDecl.{OutputDecl}
 use Rattle.wf_manifest.specs.declared.templates.Backoff.{Backoff}
 use Rattle.wf_manifest.specs.declared.templates.Retry.{Retry}
-use Rattle.scopes.specs.Substitution.{Found}
+use Rattle.scopes.specs.Substitution.{Found, Scope}
 use Rattle.meaning.specs.declared.lines.Place.{Place}
 use Rattle.meaning.specs.Answers.{Answers}
 use Rattle.meaning.specs.Lines.{Made}
@@ -22,14 +23,18 @@ use Rattle.locality.proofs.Answered.{same_further}
 pub pods_are_local : PodsAreLocal
 pods_are_local A B place ds same = ap (pod_by place ds) (same.outcome place (begins_itself place.sels))
 
-suspended_same : (A B : Answers) (place : Place) (ds : List OutputDecl) → SameBelow A B place.sels → (f : Found (Option ℕ)) → suspended A place ds f ≡ suspended B place ds f
-suspended_same A B place ds same (Err fault) = refl
-suspended_same A B place ds same (Ok seconds) =
-    let here = begins_itself place.sels in
-    λ i. suspend_by place ds seconds (same.armed place.sels here i) (same.due place.sels here i || same.resumed place.sels here i)
+-- a suspended node, by what is answered at its own path
+pub suspended_by_own : (A B : Answers) (place : Place) (scope : Scope) (ds : List OutputDecl) (duration : Option (List Part)) → A.armed place.sels ≡ B.armed place.sels → A.due place.sels ≡ B.due place.sels → A.resumed place.sels ≡ B.resumed place.sels → suspend_made A place scope ds duration ≡ suspend_made B place scope ds duration
+suspended_by_own A B place scope ds duration armed due resumed = go (seconds_of scope duration)
+  where
+    go : (f : Found (Option ℕ)) → suspended A place ds f ≡ suspended B place ds f
+    go (Err fault) = refl
+    go (Ok seconds) = λ i. suspend_by place ds seconds (armed i) (due i || resumed i)
 
 pub suspended_are_local : SuspendedAreLocal
-suspended_are_local A B place scope ds duration same = suspended_same A B place ds same (seconds_of scope duration)
+suspended_are_local A B place scope ds duration same =
+    let here = begins_itself place.sels in
+    suspended_by_own A B place scope ds duration (same.armed place.sels here) (same.due place.sels here) (same.resumed place.sels here)
 
 -- ---- attempts
 

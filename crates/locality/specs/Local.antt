@@ -1,5 +1,5 @@
 -- What a call makes depends on what is recorded only by what is answered at its own path and below it.
-use Rattle.std.specs.Prelude.{◌≡◌, ℕ, suc, ◌+◌, ◌<◌, ◌≤◌, List, [], ◌∷◌, ◌++◌, Option, length, take}
+use Rattle.std.specs.Prelude.{◌≡◌, ℕ, suc, ◌+◌, ◌<◌, ◌≤◌, List, [], ◌∷◌, ◌++◌, Bool, true, Option, Some, length, take, slice_get, All}
 use Rattle.serde_json.specs.Data.{Data}
 use Rattle.tree_types.specs.declared.path.Sel.{Sel}
 use Rattle.tree_types.specs.declared.path.Sel.TheVariants.{Group, Step, Item, Attempt, Task as task_sel}
@@ -21,7 +21,7 @@ use Rattle.meaning.specs.Lines.{Made}
 use Rattle.meaning.specs.Pods.{pod_made, attempts_from}
 use Rattle.meaning.specs.Suspends.{suspend_made}
 use Rattle.meaning.specs.Steps.{Caller, member, member_place, members, groups_from}
-use Rattle.meaning.specs.Dags.{Look, task_place, begun_task, standing, dag_made}
+use Rattle.meaning.specs.Dags.{parents, Look, look, task_place, begun_task, standing, standings, dag_made}
 use Rattle.meaning.specs.Calls.{body_made, memo_made, template_made, call_of_template, hook_place, hook_made, hooked, one_made, item_place, item_made, items_made, calls}
 use Rattle.meaning.specs.Trees.{top_call_within}
 use Rattle.locality.specs.Paths.{IsOff}
@@ -174,6 +174,18 @@ TasksAreLocal =
     (A B : Answers) (called other : Caller) (place : Place) (scope : Scope) (d : Dag) (at : Look) (i : ℕ) (t : Task) →
     SameCallers A B called other → SameBelow A B (task_place place i t).sels →
     standing A called place scope d at i t ≡ standing B other place scope d at i t
+
+-- the tasks of these names: below each of them the same is answered, and each that it waits for is one of them
+pub record AreKept (A B : Answers) (place : Place) (ts : List Task) (kept : List ℕ → Bool) : Type 0 where
+  pub below : (i : ℕ) (t : Task) → slice_get ts i ≡ Some t → kept t.call.name ≡ true → SameBelow A B (task_place place i t).sels
+  pub awaited : (i : ℕ) (t : Task) → slice_get ts i ≡ Some t → kept t.call.name ≡ true → All (λ n. kept n ≡ true) (parents ts t)
+
+-- such a task stands the same, whatever is answered of the other tasks
+abbrev pub KeptTasksAreLocal : Type 0
+KeptTasksAreLocal =
+    (A B : Answers) (called other : Caller) (place : Place) (scope : Scope) (d : Dag) (kept : List ℕ → Bool)
+    (name : List ℕ) → SameCallers A B called other → AreKept A B place d.tasks kept → kept name ≡ true →
+    look (standings A called place scope d) name ≡ look (standings B other place scope d) name
 
 -- a DAG, whatever is answered at its own path
 abbrev pub DagsAreLocal : Type 0

@@ -4,7 +4,7 @@ ghost use Rattle.locality.specs.Local.{CallsAreLocal, CallsOffStay, TopCallsAreL
 ghost use Rattle.locality.specs.Local.{CallsOfTemplatesAreLocal, SingleCallsAreLocal, HooksAreLocal, HookedAreLocal};
 ghost use Rattle.locality.specs.Local.{ItemsAreLocal, LoopsAreLocal, TemplatesAreLocal, MemosAreLocal, BodiesAreLocal};
 ghost use Rattle.locality.specs.Local.{MembersAreLocal, GroupsAreLocal, StepsAreLocal, FirstGroupsAreLocal};
-ghost use Rattle.locality.specs.Local.{BegunTasksAreLocal, TasksAreLocal, DagsAreLocal};
+ghost use Rattle.locality.specs.Local.{BegunTasksAreLocal, TasksAreLocal, KeptTasksAreLocal, DagsAreLocal};
 ghost use Rattle.locality.specs.Local.{PodsAreLocal, SuspendedAreLocal, AttemptsAreLocal, FirstAttemptsAreLocal};
 
 /// Where the same is answered at their paths and below, calls make the same, with any number of depths left.
@@ -100,6 +100,11 @@ pub fn begun_tasks_are_local()
 /// A task stands the same where the tasks do that it waits for.
 pub fn tasks_are_local()
     ensures { TasksAreLocal }
+{}
+
+/// Tasks stand the same below which, and below whose ancestors, the same is answered.
+pub fn kept_tasks_are_local()
+    ensures { KeptTasksAreLocal }
 {}
 
 /// A DAG is the same, whatever is answered at its own path.
