@@ -6,3 +6,4 @@ pub mod Dags
 pub mod KeptTasks
 pub mod Calls
 pub mod OffPath
+pub mod WorkedPremises

@@ -1,5 +1,6 @@
 -- What stays where one path changes: all that stands beside the way down to it.
-use Rattle.std.proofs.Common.{◌≡◌, ℕ, suc, ◌+◌, ◌<◌, ◌≤◌, List, [], ◌∷◌, ◌++◌, Bool, false, Option, length, take, refl, sym, ap, subst, arith}
+use Rattle.std.proofs.Common.{◌≡◌, ℕ, suc, ◌+◌, ◌<◌, ◌≤◌, List, [], ◌∷◌, ◌++◌, Bool, true, false, Option, Some, length, take, refl, sym, ap, ◌∙◌, subst, arith}
+use Rattle.std.specs.Prelude.{slice_get, All}
 use Rattle.std.proofs.lemmas.Bool.{ne_eqb}
 use Rattle.serde_json.specs.Data.{Data}
 use Rattle.tree_types.specs.declared.path.Sel.{Sel}
@@ -23,16 +24,17 @@ use Rattle.meaning.specs.Lines.{Made}
 use Rattle.meaning.specs.Pods.{pod_by, pod_made, attempt, attempts_from}
 use Rattle.meaning.specs.Suspends.{suspend_made}
 use Rattle.meaning.specs.Steps.{Caller, member, member_place, members, group_place, members_at, groups_from}
-use Rattle.meaning.specs.Dags.{Look, task_place, begun_task, free, standing, dag_made}
+use Rattle.meaning.specs.Dags.{parents, Look, look, task_place, begun_task, free, standing, standings, dag_made}
 use Rattle.meaning.specs.Calls.{body_made, memo_made, template_made, call_of_template, hook_place, hook_made, hooked, one_made, item_place, item_made, items_made, calls}
 use Rattle.locality.specs.Paths.{IsOff}
 use Rattle.locality.specs.Answered.{SameBelow, SameBut}
 use Rattle.locality.specs.Local.{SameCallers, SameChildren}
-use Rattle.locality.proofs.Paths.{off_below, off_own_children, off_other_child}
+use Rattle.locality.proofs.Paths.{above_differs, off_below, off_own_children, off_other_child}
 use Rattle.locality.proofs.Answered.{same_further, off_is_same}
 use Rattle.locality.proofs.Leaves.{suspended_by_own, suspended_are_local, attempts_are_local, first_attempts_are_local}
 use Rattle.locality.proofs.Rows.{members_are_local, groups_are_local, members_at_same, steps_are_local, first_groups_are_local}
 use Rattle.locality.proofs.Dags.{begun_tasks_are_local, free_same, tasks_are_local, dags_are_local}
+use Rattle.locality.proofs.KeptTasks.{kept_tasks_are_local}
 use Rattle.locality.proofs.Calls.{bodies_are_local, memos_are_local, templates_are_local, calls_of_templates_are_local, hooks_are_local, hooked_are_local, single_calls_are_local, items_are_local, loops_are_local, calls_are_local}
 
 module _ (A B : Answers) (changed : Sels) (same : SameBut A B changed) where
@@ -62,6 +64,10 @@ module _ (A B : Answers) (changed : Sels) (same : SameBut A B changed) where
   pub attempts_in_front : (place : Place) (i n k : ℕ) (rest : Sels) → changed ≡ place.sels ++ Attempt k ∷ rest → i + n ≤ k → SameChildren A B place Attempt i n
   attempts_in_front place i n k rest way le =
       other_children place Attempt i n rest (Attempt k) way (λ j l u. ne_eqb k j (λ e. omega arith))
+
+  -- at a place on the way down to the change the same is answered: its lock, its memoized answer, its beginning
+  pub apart_on_way : (at rest : Sels) (s : Sel) → changed ≡ at ++ s ∷ rest → sels_eq at changed ≡ false
+  apart_on_way at rest s way = ap (sels_eq at) way ∙ above_differs at rest s
 
   -- ---- nodes without calls: by what is answered at their own paths
 
@@ -156,6 +162,17 @@ module _ (A B : Answers) (changed : Sels) (same : SameBut A B changed) where
 
     pub task_stays : (place : Place) (scope : Scope) (d : Dag) (at : Look) (i : ℕ) (t : Task) → IsOff changed (task_place place i t).sels → standing A called place scope d at i t ≡ standing B other place scope d at i t
     task_stays place scope d at i t off = tasks_are_local A B called other place scope d at i t each (same_off (task_place place i t).sels off)
+
+    -- tasks that are not the changed one, and wait for no task but such
+    pub kept_tasks_stay : (place : Place) (scope : Scope) (d : Dag) (kept : List ℕ → Bool) (k : ℕ) (rest : Sels) (name : List ℕ) → changed ≡ place.sels ++ task_sel k ∷ rest
+        → ((t : Task) → slice_get d.tasks k ≡ Some t → kept t.call.name ≡ false)
+        → ((i : ℕ) (t : Task) → slice_get d.tasks i ≡ Some t → kept t.call.name ≡ true → All (λ n. kept n ≡ true) (parents d.tasks t))
+        → kept name ≡ true → look (standings A called place scope d) name ≡ look (standings B other place scope d) name
+    kept_tasks_stay place scope d kept k rest name way not_kept awaited =
+        kept_tasks_are_local A B called other place scope d kept name each (record { below = λ i t is h. other_child place.sels rest (task_sel k) (task_sel i) way (ne_eqb k i (λ e. clash i t is h e)); awaited = awaited })
+      where
+        clash : (i : ℕ) (t : Task) → slice_get d.tasks i ≡ Some t → kept t.call.name ≡ true → k ≡ i → ⊥
+        clash i t is h e = let none = not_kept t (ap (slice_get d.tasks) e ∙ is) in cc (none, h)
 
     pub dag_stays : (place : Place) (scope : Scope) (ds : List OutputDecl) (d : Dag) → SameChildren A B place task_sel 0 (length d.tasks) → dag_made A called place scope ds d ≡ dag_made B other place scope ds d
     dag_stays place scope ds d children = dags_are_local A B called other place scope ds d each children
