@@ -1,19 +1,18 @@
 -- Answers that are the same at a path and below it, or but at one path; and what a last fact changes of them.
-use Rattle.std.proofs.Common.{◌≡◌, refl, sym, ◌∙◌, ap}
-use Rattle.std.proofs.lemmas.Bool.{or_from}
+use Rattle.std.proofs.Common.{◌≡◌, refl, sym, ◌∙◌, ap, subst}
+use Rattle.std.proofs.lemmas.List.{append_assoc, append-nil}
+use Rattle.std.proofs.lemmas.List.Elements.{recursion_from_All}
+use Rattle.std.specs.List.{AllByRecursion}
 use Rattle.std.proofs.lemmas.List.Folds.{list_any-append}
 use Rattle.std.proofs.Math.Bool.{or-false}
 use Rattle.std.specs.Prelude.{[], ◌∷◌, ◌++◌, Bool, true, false, cond, ◌||◌, Option, Some, None}
 use Rattle.tree_types.specs.declared.path.Path.{Path}
 use Rattle.tree_types.specs.declared.fact.Fact.{Fact}
 use Rattle.tree_types.specs.declared.fact.Fact.TheVariants.{Started, Settled, Carried, Granted, Memo, Armed, Due, Resumed, Begun}
-use Rattle.tree_types.specs.declared.outcome.Outcome.{Outcome}
 use Rattle.tree_types.specs.Places.{sels_eq}
 use Rattle.tree_types.specs.Journals.{is_alike, knows}
-use Rattle.meaning.specs.declared.lines.Place.{Place}
 use Rattle.meaning.specs.Answers.{path, Sels, Facts, Answers, first_or, first_of, settled_in, carried_in, memo_in, armed_in, outcome_of, outcome_at, answers}
-use Rattle.locality.specs.Paths.{begins_with, IsOff}
-use Rattle.locality.specs.Answered.{SameBelow, SameBut, sels_of, OffIsSame, FactsAreLocal, StartsOnlyStart}
+use Rattle.locality.specs.Answered.{SameBelow, SameBut, sels_of, IsOffIf, FactIsOff, OffIsSame, FactsAreLocal, JournalsAreLocal, StartsOnlyStart}
 use Rattle.locality.proofs.Paths.{apart_back, begins_above, off_differs}
 
 -- ---- the same answers
@@ -164,6 +163,18 @@ facts_are_local J f changed is = record {
   begun = λ p off. unknown J f (Begun (path p)) (begun_elsewhere changed p off f is);
 }
 
+-- so nothing changes at a path
+pub start_elsewhere : (J : Facts) (at : Sels) → SameBelow (answers (J ++ Started ∷ [])) (answers J) at
+start_elsewhere J at = record {
+  outcome = λ place e. outcome_unread J Started place.sels refl refl;
+  granted = λ p e. unknown J Started (Granted (path p)) refl;
+  memo = λ p e. unread (memo_in p) J Started refl;
+  armed = λ p e. unread (armed_in p) J Started refl;
+  due = λ p e. unknown J Started (Due (path p)) refl;
+  resumed = λ p e. unknown J Started (Resumed (path p)) refl;
+  begun = λ p e. unknown J Started (Begun (path p)) refl;
+}
+
 pub starts_only_start : StartsOnlyStart
 starts_only_start J = λ i. record {
   started = known J Started Started refl i;
@@ -175,3 +186,22 @@ starts_only_start J = λ i. record {
   resumed = λ p. unknown J Started (Resumed (path p)) refl i;
   begun = λ p. unknown J Started (Begun (path p)) refl i;
 }
+
+-- ---- facts elsewhere
+
+fact_elsewhere : (J : Facts) (f : Fact) (at : Sels) (p : Option Sels) → sels_of f ≡ p → IsOffIf p at → SameBelow (answers (J ++ f ∷ [])) (answers J) at
+fact_elsewhere J f at (Some changed) is off =
+    off_is_same (answers (J ++ f ∷ [])) (answers J) changed at (facts_are_local J f changed is) off
+fact_elsewhere J Started at None is off = start_elsewhere J at
+fact_elsewhere J _ at None is off = absurd (cc is)
+
+facts_elsewhere : (J K : Facts) (at : Sels) → AllByRecursion (FactIsOff at) K → SameBelow (answers (J ++ K)) (answers J) at
+facts_elsewhere J [] at off =
+    subst (λ (x : Facts). SameBelow (answers x) (answers J) at) (sym (append-nil J)) (same_itself (answers J) at)
+facts_elsewhere J (f ∷ K) at off =
+    let next : Facts = J ++ f ∷ [] in
+    subst (λ (x : Facts). SameBelow (answers x) (answers J) at) (append_assoc J (f ∷ []) K)
+    (same_then (answers (next ++ K)) (answers next) (answers J) at (facts_elsewhere next K at off.1) (fact_elsewhere J f at (sels_of f) refl off.0))
+
+pub journals_are_local : JournalsAreLocal
+journals_are_local J K at off = facts_elsewhere J K at (recursion_from_All (FactIsOff at) K off)

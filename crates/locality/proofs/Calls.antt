@@ -1,5 +1,5 @@
 -- Calls, where the same is answered.
-use Rattle.std.proofs.Common.{◌≡◌, ℕ, zero, suc, ◌+◌, ◌<◌, ◌≤◌, List, [], ◌∷◌, ◌++◌, Bool, true, false, Option, Some, None, Ok, Err, length, refl, ap, ◌∙◌}
+use Rattle.std.proofs.Common.{◌≡◌, ℕ, zero, suc, List, [], ◌∷◌, ◌++◌, Bool, true, false, Option, Some, None, Ok, Err, length, refl, ap, ◌∙◌}
 use Rattle.serde_json.specs.Data.{Data}
 use Rattle.tree_types.specs.declared.path.Sel.TheVariants.{Exit, Item, Task as task_sel}
 use Rattle.tree_types.specs.declared.path.LockId.{LockId}
@@ -21,8 +21,7 @@ use Rattle.meaning.specs.declared.lines.Place.{Place}
 use Rattle.meaning.specs.Answers.{MemoAnswer, Answers}
 use Rattle.meaning.specs.Lines.{Made, tags_of}
 use Rattle.meaning.specs.Steps.{Caller}
-use Rattle.meaning.specs.Calls.{template_named, kind_named, template_scope, unless_stopped, stopped_at_item, stopped_before_loop, hook_runs, hook_place, then_hook, loop_made, declared_by, item_place, saving, body_by, body_made, remembered, keyed, memo_made, locked, template_by, template_made, entry, call_by, call_of_template, hook_made, hooked_if, hooked, one_made, item_made, items_made, looped, each_made, call_made, calls}
-use Rattle.meaning.specs.Trees.{top_call_within}
+use Rattle.meaning.specs.Calls.{template_named, kind_named, template_scope, unless_stopped, stopped_at_item, stopped_before_loop, hook_runs, hook_place, then_hook, loop_made, declared_by, item_place, saving, body_by, body_made, remembered, keyed, memo_made, locked, template_by, template_made, entry, call_by, hooked_if, hooked, one_made, item_made, items_made, looped, each_made, call_made, calls}
 use Rattle.locality.specs.Answered.{SameBelow}
 use Rattle.locality.specs.Local.{SameCallers, SameChildren, CallsAreLocal, CallsOffStay, TopCallsAreLocal, TopCallsOffStay, CallsOfTemplatesAreLocal, SingleCallsAreLocal, HooksAreLocal, HookedAreLocal, ItemsAreLocal, LoopsAreLocal, TemplatesAreLocal, MemosAreLocal, BodiesAreLocal}
 use Rattle.locality.proofs.Paths.{begins_itself}

@@ -1,11 +1,10 @@
 -- DAGs, where the same is answered.
-use Rattle.std.proofs.Common.{◌≡◌, ℕ, zero, suc, ◌+◌, ◌<◌, ◌≤◌, List, [], ◌∷◌, ◌++◌, Bool, true, false, not, ◌||◌, Option, Some, None, length, refl, ap, ◌∙◌}
+use Rattle.std.proofs.Common.{◌≡◌, ℕ, zero, suc, [], ◌++◌, Bool, true, false, not, ◌||◌, Option, Some, None, length, refl, ap, ◌∙◌}
 use Rattle.std.specs.Prelude.{codes}
 use Rattle.std.specs.List.{list_all}
 use Rattle.tree_types.specs.declared.path.Sel.TheVariants.{Task as task_sel}
 use Rattle.depends_expr.specs.Expression.{Expression}
 use Rattle.depends_expr.specs.Truth.{truth, named}
-use Rattle.wf_manifest.specs.declared.templates.OutputDecl.{OutputDecl}
 use Rattle.wf_manifest.specs.declared.calls.Task.{Task}
 use Rattle.wf_manifest.specs.declared.calls.Dag.{Dag}
 use Rattle.scopes.specs.Substitution.{Scope}
@@ -13,7 +12,7 @@ use Rattle.meaning.specs.declared.lines.Place.{Place}
 use Rattle.meaning.specs.Answers.{Answers}
 use Rattle.meaning.specs.Lines.{Made}
 use Rattle.meaning.specs.Steps.{Caller, covered}
-use Rattle.meaning.specs.Dags.{awaited, is_meant, exists, is_over, result_of, Look, Standings, look, task_place, tags_before, begun_task, free_by, free, decided_by, waits_by, meant, meant_by, standing, with_standing, standings_by, rounds, standings, dag_by, dag_made}
+use Rattle.meaning.specs.Dags.{awaited, is_meant, exists, is_over, result_of, Look, Standings, look, task_place, tags_before, free_by, free, decided_by, waits_by, meant, meant_by, standing, with_standing, standings_by, rounds, standings, dag_by}
 use Rattle.locality.specs.Answered.{SameBelow}
 use Rattle.locality.specs.Local.{SameCallers, SameChildren, BegunTasksAreLocal, TasksAreLocal, DagsAreLocal}
 use Rattle.locality.proofs.Paths.{begins_itself}

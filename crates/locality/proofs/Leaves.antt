@@ -1,5 +1,5 @@
 -- Pods, attempts and suspended nodes, where the same is answered.
-use Rattle.std.proofs.Common.{◌≡◌, ℕ, zero, suc, ◌+◌, ◌<◌, ◌≤◌, [], ◌∷◌, ◌++◌, List, Bool, true, false, ◌||◌, Option, Some, None, Ok, Err, take, refl, sym, ap, ◌∙◌, arith}
+use Rattle.std.proofs.Common.{◌≡◌, ℕ, zero, suc, [], ◌∷◌, List, Bool, true, false, ◌||◌, Option, Some, None, Ok, Err, take, refl, sym, ap, ◌∙◌, arith}
 use Rattle.tree_types.specs.declared.path.Sel.TheVariants.{Attempt}
 use Rattle.tree_types.specs.declared.node.Note.{Note}
 use Rattle.tree_types.specs.declared.outcome.Outcome.{Outcome}
@@ -11,7 +11,7 @@ use Rattle.scopes.specs.Substitution.{Found, Scope}
 use Rattle.meaning.specs.declared.lines.Place.{Place}
 use Rattle.meaning.specs.Answers.{Answers}
 use Rattle.meaning.specs.Lines.{Made}
-use Rattle.meaning.specs.Pods.{pod_by, pod_made, Attempts, ends_with, before_attempts, first_begin, further, attempt, may_start, ended_attempt, started_by, retried_by, follows, attempt_by, attempts_from, retry_by, retry_made}
+use Rattle.meaning.specs.Pods.{pod_by, Attempts, ends_with, before_attempts, first_begin, further, attempt, may_start, ended_attempt, started_by, retried_by, follows, attempt_by, attempts_from, retry_by, retry_made}
 use Rattle.meaning.specs.Suspends.{seconds_of, suspend_by, suspended, suspend_made}
 use Rattle.locality.specs.Answered.{SameBelow}
 use Rattle.locality.specs.Local.{SameChildren, PodsAreLocal, SuspendedAreLocal, AttemptsAreLocal, FirstAttemptsAreLocal}
@@ -24,7 +24,8 @@ pub pods_are_local : PodsAreLocal
 pods_are_local A B place ds same = ap (pod_by place ds) (same.outcome place (begins_itself place.sels))
 
 -- a suspended node, by what is answered at its own path
-pub suspended_by_own : (A B : Answers) (place : Place) (scope : Scope) (ds : List OutputDecl) (duration : Option (List Part)) → A.armed place.sels ≡ B.armed place.sels → A.due place.sels ≡ B.due place.sels → A.resumed place.sels ≡ B.resumed place.sels → suspend_made A place scope ds duration ≡ suspend_made B place scope ds duration
+pub suspended_by_own : (A B : Answers) (place : Place) (scope : Scope) (ds : List OutputDecl) (duration : Option (List Part)) → A.armed place.sels ≡ B.armed place.sels → A.due place.sels ≡ B.due place.sels → A.resumed place.sels ≡ B.resumed place.sels
+    → suspend_made A place scope ds duration ≡ suspend_made B place scope ds duration
 suspended_by_own A B place scope ds duration armed due resumed = go (seconds_of scope duration)
   where
     go : (f : Found (Option ℕ)) → suspended A place ds f ≡ suspended B place ds f

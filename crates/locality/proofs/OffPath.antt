@@ -1,5 +1,5 @@
 -- What stays where one path changes: all that stands beside the way down to it.
-use Rattle.std.proofs.Common.{◌≡◌, ℕ, suc, ◌+◌, ◌<◌, ◌≤◌, List, [], ◌∷◌, ◌++◌, Bool, true, false, Option, Some, length, take, refl, sym, ap, ◌∙◌, subst, arith}
+use Rattle.std.proofs.Common.{◌≡◌, ℕ, ◌+◌, ◌<◌, ◌≤◌, List, [], ◌∷◌, ◌++◌, Bool, true, false, Option, Some, length, take, sym, ap, ◌∙◌, subst, arith}
 use Rattle.std.specs.Prelude.{slice_get, All}
 use Rattle.std.proofs.lemmas.Bool.{ne_eqb}
 use Rattle.serde_json.specs.Data.{Data}
@@ -30,8 +30,8 @@ use Rattle.locality.specs.Paths.{IsOff}
 use Rattle.locality.specs.Answered.{SameBelow, SameBut}
 use Rattle.locality.specs.Local.{SameCallers, SameChildren}
 use Rattle.locality.proofs.Paths.{above_differs, off_below, off_own_children, off_other_child}
-use Rattle.locality.proofs.Answered.{same_further, off_is_same}
-use Rattle.locality.proofs.Leaves.{suspended_by_own, suspended_are_local, attempts_are_local, first_attempts_are_local}
+use Rattle.locality.proofs.Answered.{off_is_same}
+use Rattle.locality.proofs.Leaves.{suspended_by_own, first_attempts_are_local}
 use Rattle.locality.proofs.Rows.{members_are_local, groups_are_local, members_at_same, steps_are_local, first_groups_are_local}
 use Rattle.locality.proofs.Dags.{begun_tasks_are_local, free_same, tasks_are_local, dags_are_local}
 use Rattle.locality.proofs.KeptTasks.{kept_tasks_are_local}

@@ -9,7 +9,7 @@ use Rattle.scopes.specs.Substitution.{Scope}
 use Rattle.meaning.specs.declared.lines.Place.{Place}
 use Rattle.meaning.specs.Answers.{Answers}
 use Rattle.meaning.specs.Lines.{numbered, Made}
-use Rattle.meaning.specs.Steps.{Caller, Member, member, members, member_place, group_phase, group_made, group_tags, Groups, before_groups, group_place, groups_by, members_at, groups_from, steps_by, steps_made}
+use Rattle.meaning.specs.Steps.{Caller, Member, member, member_place, group_phase, group_made, group_tags, Groups, before_groups, group_place, groups_by, members_at, groups_from, steps_by, steps_made}
 use Rattle.locality.specs.Answered.{SameBelow}
 use Rattle.locality.specs.Local.{SameCallers, SameChildren, MembersAreLocal, GroupsAreLocal, StepsAreLocal, FirstGroupsAreLocal}
 use Rattle.locality.proofs.Answered.{same_further}

@@ -1,5 +1,5 @@
 -- The premises of the laws hold together: the first member of a group is settled, and the second one makes what it made.
-use Rattle.std.proofs.Common.{◌≡◌, ℕ, zero, suc, ◌+◌, List, [], ◌∷◌, ◌++◌, Bool, true, false, not, Option, Some, None, length, take, refl, ap, subst, arith}
+use Rattle.std.proofs.Common.{◌≡◌, ℕ, zero, suc, List, [], ◌∷◌, Bool, true, false, not, Option, Some, None, length, take, refl, ap, subst, arith}
 use Rattle.std.proofs.lemmas.List.Elements.{All-from_recursion}
 use Rattle.std.proofs.lemmas.Bool.{ne_eqb}
 use Rattle.std.specs.Prelude.{codes, bytes_eq, slice_get, All}
@@ -31,11 +31,11 @@ use Rattle.meaning.specs.Calls.{body_made, memo_made, template_made, call_of_tem
 use Rattle.meaning.specs.Trees.{exit_root, top_call_within}
 use Rattle.meaning.proofs.Samples.{call, task, task_after, succeeded, settled}
 use Rattle.locality.specs.Paths.{IsOff}
-use Rattle.locality.specs.Answered.{SameBelow, SameBut}
+use Rattle.locality.specs.Answered.{SameBelow, SameBut, FactIsOff}
 use Rattle.locality.specs.Local.{SameCallers, SameChildren, AreKept}
 use Rattle.locality.proofs.Paths.{off_other_child}
-use Rattle.locality.proofs.Answered.{same_further, off_is_same, facts_are_local}
-use Rattle.locality.proofs.OffPath.{other_children}
+use Rattle.locality.proofs.Answered.{same_further, off_is_same, facts_are_local, journals_are_local}
+use Rattle.locality.proofs.OffPath.{other_children, groups_in_front, attempts_in_front}
 use Rattle.locality.proofs.Leaves.{pods_are_local, suspended_are_local, attempts_are_local, first_attempts_are_local}
 use Rattle.locality.proofs.Rows.{members_are_local, groups_are_local, steps_are_local, first_groups_are_local}
 use Rattle.locality.proofs.Dags.{begun_tasks_are_local, tasks_are_local, dags_are_local}
@@ -80,6 +80,13 @@ below = off_is_same new old first second.sels same off
 children : (child : ℕ → Sel) (i n : ℕ) → SameChildren new old second child i n
 children child i n = λ j l u. same_further new old second.sels (child j ∷ []) below
 
+-- nor by both facts at once
+both_off : All (FactIsOff second.sels) (Started ∷ ended ∷ [])
+both_off = All-from_recursion (FactIsOff second.sels) (Started ∷ ended ∷ []) (tt, (refl, tt))
+
+both_below : SameBelow new (answers []) second.sels
+both_below = journals_are_local [] (Started ∷ ended ∷ []) second.sels both_off
+
 -- the group of the two
 abbrev first_group : Place
 first_group = record { sels = Main ∷ Group 0 ∷ []; name = codes "w[0]"; depth = 2 }
@@ -102,10 +109,29 @@ suspended_same scope ds duration = suspended_are_local new old second scope ds d
 attempts_same : (ds : List OutputDecl) (r : Retry) (n : ℕ) → attempts_from new second ds r n 0 None ≡ attempts_from old second ds r n 0 None
 attempts_same ds r n = attempts_are_local new old second ds r n 0 None (children Attempt 0 (suc n))
 
-first_attempts_same : (ds : List OutputDecl) (r : Retry) (n tried : ℕ) → take tried (attempts_from new second ds r n 0 None).all ≡ take tried (attempts_from old second ds r n 0 None).all
-first_attempts_same ds r n tried = first_attempts_are_local new old second ds r n 0 None tried (children Attempt 0 tried)
+-- the second attempt is settled: the first one is the same
+abbrev second_try : Fact
+second_try = settled (Attempt 1 ∷ []) succeeded
+
+abbrev tried : Answers
+tried = answers (Started ∷ second_try ∷ [])
+
+tried_same : SameBut tried old (Main ∷ Attempt 1 ∷ [])
+tried_same = facts_are_local (Started ∷ []) second_try (Main ∷ Attempt 1 ∷ []) refl
+
+first_attempt_same : (ds : List OutputDecl) (r : Retry) (n : ℕ) → take 1 (attempts_from tried main ds r n 0 None).all ≡ take 1 (attempts_from old main ds r n 0 None).all
+first_attempt_same ds r n = first_attempts_are_local tried old main ds r n 0 None 1 (attempts_in_front tried old (Main ∷ Attempt 1 ∷ []) tried_same main 0 1 1 [] refl (omega arith))
 
 -- ---- calls
+
+abbrev of_group : Fact
+of_group = settled (Group 1 ∷ Step 0 ∷ []) succeeded
+
+abbrev grouped : Answers
+grouped = answers (Started ∷ of_group ∷ [])
+
+grouped_same : SameBut grouped old (Main ∷ Group 1 ∷ Step 0 ∷ [])
+grouped_same = facts_are_local (Started ∷ []) of_group (Main ∷ Group 1 ∷ Step 0 ∷ []) refl
 
 module _ (m : Manifest) (g : Scope) (left : ℕ) where
   abbrev called : Caller
@@ -158,8 +184,10 @@ module _ (m : Manifest) (g : Scope) (left : ℕ) where
   groups_same : (scope : Scope) (cs ds : List Call) → groups_from called main 1 scope (cs ∷ ds ∷ []) ≡ groups_from other main 1 scope (cs ∷ ds ∷ [])
   groups_same scope cs ds = steps_are_local new old called other main 1 scope (cs ∷ ds ∷ []) each behind
 
-  first_groups_same : (scope : Scope) (gs : List (List Call)) → take 2 (groups_from called main 1 scope gs).all ≡ take 2 (groups_from other main 1 scope gs).all
-  first_groups_same scope gs = first_groups_are_local new old called other main 1 scope gs 2 each behind
+  -- a member of group 1 is settled: group 0 is the same
+  first_group_same : (scope : Scope) (gs : List (List Call)) → take 1 (groups_from (calls m grouped g left) main 0 scope gs).all ≡ take 1 (groups_from other main 0 scope gs).all
+  first_group_same scope gs =
+      first_groups_are_local grouped old (calls m grouped g left) other main 0 scope gs 1 (calls_are_local m grouped old g left) (groups_in_front grouped old (Main ∷ Group 1 ∷ Step 0 ∷ []) grouped_same main 0 1 1 (Step 0 ∷ []) refl (omega arith))
 
   begun_same : (scope : Scope) (d : Dag) (seen : Scope) (i : ℕ) (t : Task) → begun_task new called second scope d seen i t ≡ begun_task old other second scope d seen i t
   begun_same scope d seen i t = begun_tasks_are_local new old called other second scope d seen i t each (same_further new old second.sels (task_sel i ∷ []) below)

@@ -1,5 +1,5 @@
 -- Answers that are the same at some paths, and what a recorded fact changes of them.
-use Rattle.std.specs.Prelude.{◌≡◌, [], ◌∷◌, ◌++◌, true, false, Option, Some, None}
+use Rattle.std.specs.Prelude.{◌≡◌, [], ◌∷◌, ◌++◌, true, false, Option, Some, None, All}
 use Rattle.tree_types.specs.declared.fact.Fact.{Fact}
 use Rattle.tree_types.specs.declared.fact.Fact.TheVariants.{Started, Settled, Carried, Granted, Memo, Armed, Due, Resumed, Begun}
 use Rattle.tree_types.specs.Places.{sels_eq}
@@ -40,6 +40,14 @@ sels_of (Due p) = Some p.sels
 sels_of (Resumed p) = Some p.sels
 sels_of (Begun p) = Some p.sels
 
+-- a fact that says nothing at this path nor below it
+abbrev pub IsOffIf : Option Sels → Sels → Type 0
+IsOffIf None at = Unit {0}
+IsOffIf (Some changed) at = IsOff changed at
+
+abbrev pub FactIsOff : Sels → Fact → Type 0
+FactIsOff at f = IsOffIf (sels_of f) at
+
 -- ---- the laws
 
 -- off the changed path the same is answered, also below
@@ -51,6 +59,11 @@ abbrev pub FactsAreLocal : Type 0
 FactsAreLocal =
     (J : Facts) (f : Fact) (changed : Sels) → sels_of f ≡ Some changed →
     SameBut (answers (J ++ f ∷ [])) (answers J) changed
+
+-- facts that say nothing at a path nor below it change nothing there
+abbrev pub JournalsAreLocal : Type 0
+JournalsAreLocal =
+    (J K : Facts) (at : Sels) → All (FactIsOff at) K → SameBelow (answers (J ++ K)) (answers J) at
 
 -- a start is answered as such, and changes nothing that is answered at a path
 abbrev pub StartsOnlyStart : Type 0
