@@ -14,7 +14,7 @@ use Rattle.meaning.specs.Lines.{Made}
 use Rattle.meaning.specs.Steps.{Caller, covered}
 use Rattle.meaning.specs.Dags.{awaited, is_meant, exists, is_over, result_of, Look, Standings, look, task_place, tags_before, free_by, free, decided_by, waits_by, meant, meant_by, standing, with_standing, standings_by, rounds, standings, dag_by}
 use Rattle.locality.specs.Answered.{SameBelow}
-use Rattle.locality.specs.Local.{SameCallers, SameChildren, BegunTasksAreLocal, TasksAreLocal, DagsAreLocal}
+use Rattle.locality.specs.Local.{SameCallers, SameChildren, BegunTasksAreLocal, DagsAreLocal}
 use Rattle.locality.proofs.Paths.{begins_itself}
 use Rattle.locality.proofs.Rows.{numbered_within}
 
@@ -49,7 +49,7 @@ module _ (A B : Answers) (called other : Caller) (each : SameCallers A B called 
     meant_by_same at false = refl
     meant_by_same at true = meant_same at (awaited d.tasks t)
 
-    standing_same : (at : Look) → standing A called place scope d at i t ≡ standing B other place scope d at i t
+    pub standing_same : (at : Look) → standing A called place scope d at i t ≡ standing B other place scope d at i t
     standing_same at = meant_by_same at (is_meant d t)
 
   module _ (same : SameChildren A B place task_sel 0 (length d.tasks)) where
@@ -64,9 +64,6 @@ module _ (A B : Answers) (called other : Caller) (each : SameCallers A B called 
 
     pub standings_same : standings A called place scope d ≡ standings B other place scope d
     standings_same = rounds_same (length d.tasks)
-
-pub tasks_are_local : TasksAreLocal
-tasks_are_local A B called other place scope d at i t each same = standing_same A B called other each place scope d i t same at
 
 pub dags_are_local : DagsAreLocal
 dags_are_local A B called other place scope ds d each same = ap (dag_by place scope ds d) (standings_same A B called other each place scope d same)

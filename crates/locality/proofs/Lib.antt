@@ -3,7 +3,7 @@ pub mod Answered
 pub mod Leaves
 pub mod Rows
 pub mod Dags
-pub mod KeptTasks
+pub mod Tasks
 pub mod Calls
 pub mod OffPath
 pub mod WorkedPremises

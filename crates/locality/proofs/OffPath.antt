@@ -33,8 +33,8 @@ use Rattle.locality.proofs.Paths.{above_differs, off_below, off_own_children, of
 use Rattle.locality.proofs.Answered.{off_is_same}
 use Rattle.locality.proofs.Leaves.{suspended_by_own, first_attempts_are_local}
 use Rattle.locality.proofs.Rows.{members_are_local, groups_are_local, members_at_same, steps_are_local, first_groups_are_local}
-use Rattle.locality.proofs.Dags.{begun_tasks_are_local, free_same, tasks_are_local, dags_are_local}
-use Rattle.locality.proofs.KeptTasks.{kept_tasks_are_local}
+use Rattle.locality.proofs.Dags.{begun_tasks_are_local, free_same, dags_are_local}
+use Rattle.locality.proofs.Tasks.{tasks_are_local, kept_tasks_are_local}
 use Rattle.locality.proofs.Calls.{bodies_are_local, memos_are_local, templates_are_local, calls_of_templates_are_local, hooks_are_local, hooked_are_local, single_calls_are_local, items_are_local, loops_are_local, calls_are_local}
 
 module _ (A B : Answers) (changed : Sels) (same : SameBut A B changed) where
@@ -160,8 +160,8 @@ module _ (A B : Answers) (changed : Sels) (same : SameBut A B changed) where
     pub free_task_stays : (place : Place) (scope : Scope) (d : Dag) (seen : Scope) (i : ℕ) (t : Task) → IsOff changed (task_place place i t).sels → free A called place scope d seen i t ≡ free B other place scope d seen i t
     free_task_stays place scope d seen i t off = free_same A B called other each place scope d i t (same_off (task_place place i t).sels off) seen
 
-    pub task_stays : (place : Place) (scope : Scope) (d : Dag) (at : Look) (i : ℕ) (t : Task) → IsOff changed (task_place place i t).sels → standing A called place scope d at i t ≡ standing B other place scope d at i t
-    task_stays place scope d at i t off = tasks_are_local A B called other place scope d at i t each (same_off (task_place place i t).sels off)
+    pub task_stays : (place : Place) (scope : Scope) (d : Dag) (at by : Look) (i : ℕ) (t : Task) → IsOff changed (task_place place i t).sels → All (λ n. at n ≡ by n) (parents d.tasks t) → standing A called place scope d at i t ≡ standing B other place scope d by i t
+    task_stays place scope d at by i t off alike = tasks_are_local A B called other place scope d at by i t each (same_off (task_place place i t).sels off) alike
 
     -- tasks that are not the changed one, and wait for no task but such
     pub kept_tasks_stay : (place : Place) (scope : Scope) (d : Dag) (kept : List ℕ → Bool) (k : ℕ) (rest : Sels) (name : List ℕ) → changed ≡ place.sels ++ task_sel k ∷ rest

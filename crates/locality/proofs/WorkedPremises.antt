@@ -38,8 +38,8 @@ use Rattle.locality.proofs.Answered.{same_further, off_is_same, facts_are_local,
 use Rattle.locality.proofs.OffPath.{other_children, groups_in_front, attempts_in_front}
 use Rattle.locality.proofs.Leaves.{pods_are_local, suspended_are_local, attempts_are_local, first_attempts_are_local}
 use Rattle.locality.proofs.Rows.{members_are_local, groups_are_local, steps_are_local, first_groups_are_local}
-use Rattle.locality.proofs.Dags.{begun_tasks_are_local, tasks_are_local, dags_are_local}
-use Rattle.locality.proofs.KeptTasks.{kept_tasks_are_local}
+use Rattle.locality.proofs.Dags.{begun_tasks_are_local, dags_are_local}
+use Rattle.locality.proofs.Tasks.{tasks_are_local, kept_tasks_are_local}
 use Rattle.locality.proofs.Calls.{bodies_are_local, memos_are_local, templates_are_local, calls_of_templates_are_local, hooks_are_local, hooked_are_local, single_calls_are_local, items_are_local, loops_are_local, calls_are_local, calls_off_stay, top_calls_are_local, top_calls_off_stay}
 
 -- ---- the fact, and the answers before and behind it
@@ -192,8 +192,10 @@ module _ (m : Manifest) (g : Scope) (left : ℕ) where
   begun_same : (scope : Scope) (d : Dag) (seen : Scope) (i : ℕ) (t : Task) → begun_task new called second scope d seen i t ≡ begun_task old other second scope d seen i t
   begun_same scope d seen i t = begun_tasks_are_local new old called other second scope d seen i t each (same_further new old second.sels (task_sel i ∷ []) below)
 
-  task_same : (scope : Scope) (d : Dag) (at : Look) (i : ℕ) (t : Task) → standing new called second scope d at i t ≡ standing old other second scope d at i t
-  task_same scope d at i t = tasks_are_local new old called other second scope d at i t each (same_further new old second.sels (task_sel i ∷ []) below)
+  -- a task that waits for none, however the others stand
+  task_same : (scope : Scope) (d : Dag) (at by : Look) (i : ℕ) → standing new called second scope d at i (task (call (codes "a"))) ≡ standing old other second scope d by i (task (call (codes "a")))
+  task_same scope d at by i =
+      tasks_are_local new old called other second scope d at by i (task (call (codes "a"))) each (same_further new old second.sels (task_sel i ∷ []) below) (All-from_recursion (λ n. at n ≡ by n) [] tt)
 
   dag_same : (scope : Scope) (ds : List OutputDecl) (d : Dag) → dag_made new called second scope ds d ≡ dag_made old other second scope ds d
   dag_same scope ds d = dags_are_local new old called other second scope ds d each (children task_sel 0 (length d.tasks))

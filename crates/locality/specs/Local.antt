@@ -171,9 +171,9 @@ BegunTasksAreLocal =
 -- a task, where the tasks stand the same that it waits for
 abbrev pub TasksAreLocal : Type 0
 TasksAreLocal =
-    (A B : Answers) (called other : Caller) (place : Place) (scope : Scope) (d : Dag) (at : Look) (i : ℕ) (t : Task) →
-    SameCallers A B called other → SameBelow A B (task_place place i t).sels →
-    standing A called place scope d at i t ≡ standing B other place scope d at i t
+    (A B : Answers) (called other : Caller) (place : Place) (scope : Scope) (d : Dag) (at by : Look) (i : ℕ) (t : Task) →
+    SameCallers A B called other → SameBelow A B (task_place place i t).sels → All (λ n. at n ≡ by n) (parents d.tasks t) →
+    standing A called place scope d at i t ≡ standing B other place scope d by i t
 
 -- the tasks of these names: below each of them the same is answered, and each that it waits for is one of them
 pub record AreKept (A B : Answers) (place : Place) (ts : List Task) (kept : List ℕ → Bool) : Type 0 where

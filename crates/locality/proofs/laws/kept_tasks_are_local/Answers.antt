@@ -1,5 +1,5 @@
 -- Tasks stand the same below which, and below whose ancestors, the same is answered.
-use Rattle.locality.proofs.KeptTasks.{kept_tasks_are_local}
+use Rattle.locality.proofs.Tasks.{kept_tasks_are_local}
 use Rattle.locality.proofs.laws.kept_tasks_are_local.Goals as goal
 
 pub returns : goal.returns

@@ -1,8 +1,8 @@
--- Tasks of a DAG below which, and below all that they wait for, the same is answered: they stand the same.
+-- Tasks of a DAG: they stand the same by the same answers, where those do that they wait for.
 use Rattle.std.proofs.Common.{◌≡◌, ℕ, zero, suc, ◌+◌, List, [], ◌∷◌, ◌++◌, Bool, true, false, cond, not, ◌&&◌, ◌||◌, Option, Some, None, length, map, refl, ap, ◌∙◌, arith}
 use Rattle.std.proofs.lemmas.List.Elements.{recursion_from_All}
 use Rattle.std.proofs.lemmas.Slice.Eq.{bytes_eq-Decides}
-use Rattle.std.specs.Prelude.{bytes_eq, slice_get}
+use Rattle.std.specs.Prelude.{bytes_eq, slice_get, slice_index_or}
 use Rattle.std.specs.List.{list_all, AllByRecursion}
 use Rattle.tree_types.specs.Phases.{worst_of}
 use Rattle.depends_expr.specs.Expression.{Expression, bare, has, negation, both, either}
@@ -15,8 +15,8 @@ use Rattle.meaning.specs.Answers.{Answers}
 use Rattle.meaning.specs.Lines.{numbered}
 use Rattle.meaning.specs.Steps.{Caller}
 use Rattle.meaning.specs.Dags.{Names, awaited, named_by, parents, is_meant, Standing, is_over, result_of, branch_of, tags_up_to, Look, Standings, look, tags_before, free, omitted, decided_by, waits_by, meant, meant_by, standing, with_standing, rounds}
-use Rattle.locality.specs.Local.{SameCallers, AreKept, KeptTasksAreLocal}
-use Rattle.locality.proofs.Dags.{tasks_are_local}
+use Rattle.locality.specs.Local.{SameCallers, AreKept, TasksAreLocal, KeptTasksAreLocal}
+use Rattle.locality.proofs.Dags.{standing_same}
 
 -- ---- how a task stands depends only on how the tasks stand that it waits for
 
@@ -77,11 +77,12 @@ module _ (at by : Look) where
     pub standing_shown : Shows at by (parents d.tasks t) → standing A called place scope d at i t ≡ standing A called place scope d by i t
     standing_shown h = meant_by_shown (is_meant d t) h
 
--- ---- kept tasks
+pub tasks_are_local : TasksAreLocal
+tasks_are_local A B called other place scope d at by i t each same alike =
+    standing_same A B called other each place scope d i t same at
+    ∙ standing_shown at by B other place scope d i t (recursion_from_All (λ n. at n ≡ by n) (parents d.tasks t) alike)
 
-shows_kept : (at by : Look) (kept : List ℕ → Bool) → ((n : List ℕ) → kept n ≡ true → at n ≡ by n) → (ns : Names) → AllByRecursion (λ n. kept n ≡ true) ns → Shows at by ns
-shows_kept at by kept e [] h = tt
-shows_kept at by kept e (n ∷ ns) h = (e n h.0, shows_kept at by kept e ns h.1)
+-- ---- kept tasks
 
 module _ (A B : Answers) (called other : Caller) (each : SameCallers A B called other) (place : Place) (scope : Scope) (d : Dag) where
   abbrev stood : Answers → Caller → Look → ℕ → Task → Standing
@@ -108,8 +109,7 @@ module _ (A B : Answers) (called other : Caller) (each : SameCallers A B called 
     one_kept at by e k j t p is h =
         let number : k ≡ j = omega arith in
         let here : slice_get d.tasks k ≡ Some t = ap (slice_get d.tasks) number ∙ is in
-        let shown = shows_kept at by kept e (parents d.tasks t) (recursion_from_All (λ n. kept n ≡ true) (parents d.tasks t) (are.awaited k t here h)) in
-        tasks_are_local A B called other place scope d at k t each (are.below k t here h) ∙ standing_shown at by B other place scope d k t shown
+        tasks_are_local A B called other place scope d at by k t each (are.below k t here h) (λ x n l. e (slice_index_or (parents d.tasks t) x n) (are.awaited k t here h x n l))
 
     rounds_kept : (n : ℕ) (name : List ℕ) → kept name ≡ true → look (rounds A called place scope d n) name ≡ look (rounds B other place scope d n) name
     rounds_kept zero name h = refl
