@@ -40,11 +40,12 @@ sels_of (Due p) = Some p.sels
 sels_of (Resumed p) = Some p.sels
 sels_of (Begun p) = Some p.sels
 
--- a fact that says nothing at this path nor below it
+-- what changes, if anything does, is neither at this path nor below it
 abbrev pub IsOffIf : Option Sels → Sels → Type 0
 IsOffIf None at = Unit {0}
 IsOffIf (Some changed) at = IsOff changed at
 
+-- a fact that says nothing at this path nor below it
 abbrev pub FactIsOff : Sels → Fact → Type 0
 FactIsOff at f = IsOffIf (sels_of f) at
 
