@@ -1,0 +1,9 @@
+pub mod Paths
+pub mod Answered
+pub mod Leaves
+pub mod Rows
+pub mod Dags
+pub mod Tasks
+pub mod Calls
+pub mod OffPath
+pub mod WorkedPremises
