@@ -1,5 +1,5 @@
 -- The first line of a kind.
-use Rattle.std.proofs.Common.{◌≡◌, ℕ, suc, ◌+◌, ◌<◌, length, get_or, drop, drop-cons, arith, List, [], ◌∷◌, ◌++◌, Bool, true, false, cond, Option, Some, None, refl, sym, ap, ◌∙◌}
+use Rattle.std.proofs.Common.{◌≡◌, ℕ, ◌+◌, ◌<◌, length, get_or, drop, List, [], ◌∷◌, ◌++◌, Bool, true, false, cond, Option, Some, None, refl, sym, ap, ◌∙◌}
 use Rattle.std.specs.Prelude.{map, ◌||◌}
 use Rattle.std.specs.List.{find, list_any}
 use Rattle.std.specs.Option.{option_or}
@@ -8,35 +8,26 @@ use Rattle.tree_types.specs.declared.path.Path.{Path}
 use Rattle.tree_types.specs.declared.want.Want.{Want}
 use Rattle.meaning.specs.declared.lines.Line.{Line}
 use Rattle.meaning.specs.declared.lines.Line.TheVariants.{Asks}
-use Rattle.meaning.specs.Lines.{Parts, nothing, Made, lines_below, lines_in}
+use Rattle.meaning.specs.Lines.{Made, lines_below, lines_in}
 use Rattle.meaning.specs.Trees.{want_in, beginning_in, wants_in, beginnings_in}
 use Rattle.tree_state.specs.declared.kinds.WantKind.{WantKind}
 use Rattle.tree_state.specs.declared.kinds.WantKind.TheVariants.{Pod, Lock, LookUp, Arming, Timer, Save}
 use Rattle.tree_state.specs.declared.kinds.Asks.{Asks as Kinds}
 use Rattle.tree_state.specs.declared.state.Kid.{Kid}
 use Rattle.tree_state.specs.Asking.{is_of, ask_for, first}
-use Rattle.tree_state.specs.Inside.Kids.{line_then, state_then, parts_of}
+use Rattle.tree_state.specs.Inside.Kids.{kid_parts, parts_of}
 use Rattle.tree_state.specs.Inside.Sums.{asks_in, asks_of}
+use Rattle.tree_state.proofs.Kids.{from_here}
 use Rattle.tree_state.proofs.Tellings.{filter_append, kid_lines}
-
--- what a kid says
-abbrev pub kid_parts : Kid → Parts
-kid_parts k = line_then k.line (state_then k.state nothing)
 
 module _ {X : Type 0} (look : List Line → Option X) (looks : (a b : List Line) → look (a ++ b) ≡ option_or (look a) (look b)) where
   -- a kid, and those behind it
   kids_from : (kids : List Kid) (i : ℕ) (k : Kid) → i < length kids → k ≡ get_or kids i k →
       look (lines_below (parts_of (drop i kids))) ≡ option_or (look (lines_below (kid_parts k))) (look (lines_below (parts_of (drop (i + 1) kids))))
   kids_from kids i k lt is =
-      ap (λ ks. look (lines_below (parts_of ks))) here
+      ap (λ ks. look (lines_below (parts_of ks))) (from_here kids i k lt is)
       ∙ ap look (kid_lines k.line k.state (parts_of (drop (i + 1) kids)))
       ∙ looks (lines_below (kid_parts k)) (lines_below (parts_of (drop (i + 1) kids)))
-    where
-      next : suc i ≡ i + 1
-      next = omega arith
-
-      here : drop i kids ≡ k ∷ drop (i + 1) kids
-      here = drop-cons kids i k lt ∙ ap (λ y. y ∷ drop (suc i) kids) (sym is) ∙ ap (λ n. k ∷ drop n kids) next
 
   -- the kid has one
   pub kid_has : (kids : List Kid) (i : ℕ) (k : Kid) (x : X) (all : Option X) → i < length kids → k ≡ get_or kids i k → look (lines_below (parts_of (drop i kids))) ≡ all → Some x ≡ look (lines_below (kid_parts k)) → Some x ≡ all

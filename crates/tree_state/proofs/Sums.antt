@@ -1,6 +1,6 @@
 -- What is kept of lines, where lines are put together.
-use Rattle.std.proofs.Common.{◌≡◌, ℕ, suc, ◌+◌, ◌<◌, length, get_or, take, List, [], ◌∷◌, ◌++◌, Bool, true, ◌||◌, Some, None, refl, sym, ap, ap₂, ◌∙◌, arith}
-use Rattle.std.proofs.lemmas.List.{append-nil, map-append, take_more}
+use Rattle.std.proofs.Common.{Option, ◌≡◌, ℕ, suc, ◌+◌, ◌<◌, length, get_or, take, List, [], ◌∷◌, ◌++◌, Bool, true, ◌||◌, Some, None, sym, ap, ap₂, ◌∙◌, arith}
+use Rattle.std.proofs.lemmas.List.{map-append, take_more}
 use Rattle.std.specs.Prelude.{map}
 use Rattle.std.specs.declared.sync.Arc.{Arc}
 use Rattle.std.specs.declared.alloc.Global.{Global}
@@ -10,7 +10,7 @@ use Rattle.tree_types.specs.declared.path.Path.{Path}
 use Rattle.tree_types.specs.declared.want.Want.{Want}
 use Rattle.meaning.specs.declared.lines.Line.{Line}
 use Rattle.meaning.specs.declared.lines.Line.TheVariants.{Asks as Asks'}
-use Rattle.meaning.specs.Lines.{Parts, nothing, Made, row_of, then_parts, lines_below, lines_in}
+use Rattle.meaning.specs.Lines.{Parts, nothing, Made, then_parts, lines_below, lines_in}
 use Rattle.meaning.specs.Trees.{want_in, beginning_in, wants_in, beginnings_in}
 use Rattle.meaning.proofs.Flattening.{lines_then}
 use Rattle.tree_state.specs.declared.kinds.WantKind.{WantKind}
@@ -18,14 +18,14 @@ use Rattle.tree_state.specs.declared.kinds.WantKind.TheVariants.{Pod, Lock, Look
 use Rattle.tree_state.specs.declared.kinds.Asks.{Asks}
 use Rattle.tree_state.specs.declared.sum.Sum.{Sum}
 use Rattle.tree_state.specs.declared.state.Line.{Line as Line'}
-use Rattle.tree_state.specs.declared.state.Line.TheVariants as own_line
 use Rattle.tree_state.specs.declared.state.Kid.{Kid}
-use Rattle.tree_state.specs.Inside.Kids.{line_then, parts_of}
+use Rattle.tree_state.specs.Inside.Kids.{line_then, state_then, kid_parts, parts_of}
+use Rattle.tree_state.specs.Inside.Lower.{line_alone}
 use Rattle.tree_state.specs.Asking.{is_of, ask_for}
-use Rattle.tree_state.specs.Counting.{count_below, count}
+use Rattle.tree_state.specs.Counting.{count_below}
 use Rattle.tree_state.specs.Inside.Sums.{let_begin, asks_in, both_ask, sum_of}
 use Rattle.tree_state.proofs.Counts.{count_then}
-use Rattle.tree_state.proofs.Kids.{pushed}
+use Rattle.tree_state.proofs.Kids.{kid_then, pushed}
 use Rattle.tree_state.proofs.Tellings.{filter_append}
 
 ask_then : (k : WantKind) (a b : List Line) → ask_for k (a ++ b) ≡ (ask_for k a || ask_for k b)
@@ -59,38 +59,33 @@ sum_then p q = λ i. record {
 one_more : (n : ℕ) → suc (n + 0) ≡ suc n
 one_more n = omega arith
 
--- one call behind parts
-pub sum_more : (p : Parts) (m : Made) → sum_of (then_parts p (row_of (m ∷ []))) ≡ record { nodes = count_below p + count m; asks = both_ask (asks_in (lines_below p)) (asks_in (lines_in m)) }
-sum_more p m =
-    sum_then p (row_of (m ∷ []))
-    ∙ ap₂ (λ (n : ℕ) (ls : List Line). record { nodes = count_below p + n; asks = both_ask (asks_in (lines_below p)) (asks_in ls) }) (one_more (count_below m.parts)) (append-nil (lines_in m))
-
--- a line of its own has no node
-line_alone : (l : Line') → count_below (line_then (Some l) nothing) ≡ 0
-line_alone (own_line.MayBegin p) = refl
-line_alone (own_line.Asks w) = refl
-
 -- ---- what is kept, once a kid is added
 
-abbrev both_sums : Sum → ℕ → Asks → Sum
-both_sums s n a = record { nodes = s.nodes + n; asks = both_ask s.asks a }
-
-pub line_kept : (kids : List Kid) (l : Line') (s sum : Sum) (a : Asks) → s ≡ sum_of (parts_of kids) → a ≡ asks_in (lines_below (line_then (Some l) nothing)) → sum ≡ both_sums s 0 a → sum ≡ sum_of (parts_of (kids ++ record { line = Some l; state = None } ∷ []))
-line_kept kids l s sum a was is given =
-    let p : Parts = parts_of kids in
-    let q : Parts = line_then (Some l) nothing in
+pub kid_kept : (kids : List Kid) (k : Kid) (s sum : Sum) (n : ℕ) (a : Asks) → s ≡ sum_of (parts_of kids) → n ≡ count_below (kid_parts k) → a ≡ asks_in (lines_below (kid_parts k)) → sum ≡ record { nodes = s.nodes + n; asks = both_ask s.asks a } → sum ≡ sum_of (parts_of (kids ++ k ∷ []))
+kid_kept kids k s sum n a was counted is given =
     given
-    ∙ ap₂ (λ (t : Sum) (b : Asks). both_sums t 0 b) was is
-    ∙ ap (λ (n : ℕ). both_sums (sum_of p) n (asks_in (lines_below q))) (sym (line_alone l))
-    ∙ sym (ap sum_of (pushed kids (record { line = Some l; state = None })) ∙ sum_then p q)
+    ∙ ap₂ (λ (t : Sum) (b : Asks). record { nodes = t.nodes + n; asks = both_ask t.asks b }) was is
+    ∙ ap (λ (i : ℕ). record { nodes = count_below (parts_of kids) + i; asks = both_ask (asks_in (lines_below (parts_of kids))) (asks_in (lines_below (kid_parts k))) }) counted
+    ∙ sym (ap sum_of (pushed kids k) ∙ sum_then (parts_of kids) (kid_parts k))
 
-pub state_kept : (kids : List Kid) (m : Made) (arc : Arc Made Global) (s sum : Sum) (n : ℕ) (a : Asks) → s ≡ sum_of (parts_of kids) → n ≡ count m → a ≡ asks_in (lines_in m) → arc.value ≡ m → sum ≡ both_sums s n a → sum ≡ sum_of (parts_of (kids ++ record { line = None; state = Some arc } ∷ []))
-state_kept kids m arc s sum n a was counted is inside given =
-    let p : Parts = parts_of kids in
-    given
-    ∙ ap₂ (λ (t : Sum) (b : Asks). both_sums t n b) was is
-    ∙ ap (λ (k : ℕ). both_sums (sum_of p) k (asks_in (lines_in m))) counted
-    ∙ sym (ap sum_of (pushed kids (record { line = None; state = Some arc }) ∙ ap (λ (x : Made). then_parts p (row_of (x ∷ []))) inside) ∙ sum_more p m)
+-- ---- what a kid asks for, and how many nodes it has
+
+alone_counted : (s : Option (Arc Made Global)) (n : ℕ) → n ≡ count_below (state_then s nothing) → (l : Option (Arc Line' Global)) → n ≡ count_below (line_then l (state_then s nothing))
+alone_counted s n is None = is
+alone_counted s n is (Some l) = is ∙ sym (line_alone l.value (state_then s nothing))
+
+pub kid_counted : (k : Kid) (n : ℕ) → n ≡ count_below (state_then k.state nothing) → n ≡ count_below (kid_parts k)
+kid_counted k n is = alone_counted k.state n is k.line
+
+pub no_more : (n : ℕ) → suc n ≡ suc (n + 0)
+no_more n = sym (one_more n)
+
+pub kid_asks : (k : Kid) (a b : Asks) → a ≡ asks_in (lines_below (line_then k.line nothing)) → b ≡ asks_in (lines_below (state_then k.state nothing)) → both_ask a b ≡ asks_in (lines_below (kid_parts k))
+kid_asks k a b own call =
+    ap₂ both_ask own call
+    ∙ sym (asks_then (lines_below (line_then k.line nothing)) (lines_below (state_then k.state nothing)))
+    ∙ ap asks_in (sym (lines_then (line_then k.line nothing) (state_then k.state nothing)))
+    ∙ ap (λ (p : Parts). asks_in (lines_below p)) (kid_then k.line None nothing (state_then k.state nothing))
 
 -- ---- the wants of a node, one after the other
 

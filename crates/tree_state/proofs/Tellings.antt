@@ -1,5 +1,5 @@
 -- Lines, told one after the other.
-use Rattle.std.proofs.Common.{◌≡◌, ℕ, suc, ◌+◌, ◌<◌, length, get_or, drop, drop-cons, arith, List, [], ◌∷◌, ◌++◌, append_assoc, Option, Some, None, refl, sym, ap, ◌∙◌}
+use Rattle.std.proofs.Common.{◌≡◌, ℕ, ◌+◌, ◌<◌, length, get_or, drop, List, [], ◌∷◌, ◌++◌, append_assoc, Option, Some, None, refl, sym, ap, ◌∙◌}
 use Rattle.std.proofs.lemmas.List.{append-nil}
 use Rattle.std.specs.Prelude.{filter_map}
 use Rattle.std.specs.List.{cons_option}
@@ -15,7 +15,7 @@ use Rattle.meaning.proofs.Flattening.{lines_then}
 use Rattle.tree_state.specs.declared.state.Line.{Line as Line'}
 use Rattle.tree_state.specs.declared.state.Kid.{Kid}
 use Rattle.tree_state.specs.Inside.Kids.{line_then, state_then, parts_of}
-use Rattle.tree_state.proofs.Kids.{kid_then}
+use Rattle.tree_state.proofs.Kids.{kid_then, from_here}
 use Rattle.tree_state.specs.declared.told.Told.{Told}
 use Rattle.tree_state.specs.Telling.{told_with}
 
@@ -40,7 +40,7 @@ pub told_none : (t : Told) → told_with t [] ≡ t
 told_none t = λ i. record { nodes = append-nil t.nodes i; wants = append-nil t.wants i; beginnings = append-nil t.beginnings i }
 
 -- one kid's lines, and those of the kids behind it
-pub kid_lines : (l : Option Line') (s : Option (Arc Made Global)) (more : Parts) →
+pub kid_lines : (l : Option (Arc Line' Global)) (s : Option (Arc Made Global)) (more : Parts) →
     lines_below (line_then l (state_then s more)) ≡ lines_below (line_then l (state_then s nothing)) ++ lines_below more
 kid_lines l s more = sym (ap lines_below (kid_then l s nothing more)) ∙ lines_then (line_then l (state_then s nothing)) more
 
@@ -50,10 +50,4 @@ pub kid_told : (t : Told) (kids : List Kid) (i : ℕ) (k : Kid) → i < length k
 kid_told t kids i k lt is =
     told_then t (lines_below (line_then k.line (state_then k.state nothing))) (lines_below (parts_of (drop (i + 1) kids)))
     ∙ ap (λ ls. told_with t ls) (sym (kid_lines k.line k.state (parts_of (drop (i + 1) kids))))
-    ∙ ap (λ ks. told_with t (lines_below (parts_of ks))) (sym here)
-  where
-    next : suc i ≡ i + 1
-    next = omega arith
-
-    here : drop i kids ≡ k ∷ drop (i + 1) kids
-    here = drop-cons kids i k lt ∙ ap (λ y. y ∷ drop (suc i) kids) (sym is) ∙ ap (λ n. k ∷ drop n kids) next
+    ∙ ap (λ ks. told_with t (lines_below (parts_of ks))) (sym (from_here kids i k lt is))

@@ -3,6 +3,7 @@ pub mod Counting
 pub mod CountsNodes
 pub mod Inside
 pub mod MadeCode
+pub mod Replacing
 pub mod Making
 pub mod Telling
 pub use Rattle.meaning.specs.Lines

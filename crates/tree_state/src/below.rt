@@ -1,13 +1,10 @@
 //! What stands below a node.
 
 ghost use Rattle.std.specs.Prelude.{◌≡◌, [], ◌∷◌, OnOk};
-ghost use Rattle.std.specs.Prelude.{Some};
-ghost use Rattle.meaning.specs.Lines.{nothing, may_begin, asks, row_of, then_parts, lines_below};
-ghost use Rattle.tree_state.specs.Inside.Kids.{line_then};
-ghost use Rattle.tree_state.specs.Inside.Sums.{asks_in};
+ghost use Rattle.meaning.specs.Lines.{nothing, may_begin, asks, row_of, then_parts};
+ghost use Rattle.tree_state.specs.Inside.Kids.{own_line, kid_parts};
 
 use crate::State;
-use crate::kinds::Asks;
 use crate::state::{Kid, Line};
 use crate::sum::Sum;
 use base_types::Memory;
@@ -55,12 +52,7 @@ impl Below {
     pub fn push(&mut self, state: State) -> Result<(), Memory>
         ensures { OnOk result (self.new ≡ then_parts self.old (row_of (state ∷ []))) }
     {
-        let alloc = *self.kids.allocator();
-        let sum = self.sum.and(state.count(), state.asks())?;
-        let state = Some(Arc::new(alloc, state)?);
-        self.kids.push(Kid { line: None, state })?;
-        self.sum = sum;
-        Ok(())
+        self.add(Kid::of(state)?)
     }
 
     /// Adds a task that is ready, and whose beginning may be recorded.
@@ -78,24 +70,19 @@ impl Below {
     }
 
     fn line(&mut self, line: Line) -> Result<(), Memory>
-        ensures { OnOk result (self.new ≡ then_parts self.old (line_then (Some line) nothing)) }
+        ensures { OnOk result (self.new ≡ then_parts self.old (own_line line nothing)) }
     {
-        let sum = self.sum.and(0, asks_of(&line))?;
-        self.kids.push(Kid {
-            line: Some(line),
-            state: None,
-        })?;
+        let alloc = *self.kids.allocator();
+        let line = Some(Arc::new(alloc, line)?);
+        self.add(Kid { line, state: None })
+    }
+
+    pub(crate) fn add(&mut self, kid: Kid) -> Result<(), Memory>
+        ensures { OnOk result (self.new ≡ then_parts self.old (kid_parts kid)) }
+    {
+        let sum = self.sum.and(kid.count(), kid.asks())?;
+        self.kids.push(kid)?;
         self.sum = sum;
         Ok(())
-    }
-}
-
-// What a line that is no call's asks for.
-fn asks_of(line: &Line) -> Asks
-    ensures { result ≡ asks_in (lines_below (line_then (Some line.now) nothing)) }
-{
-    match line {
-        Line::MayBegin(_) => Asks::beginning(),
-        Line::Asks(want) => Asks::one(want),
     }
 }

@@ -1,12 +1,11 @@
 //! The kinds of wants, and which of them stand somewhere.
 
 ghost use Rattle.std.specs.Prelude.{◌≡◌, [], ◌∷◌};
-ghost use Rattle.tree_types.specs.declared.path.Path.{Path};
 ghost use Rattle.meaning.specs.declared.lines.Line.TheVariants as lines;
 ghost use Rattle.tree_state.specs.Asking.{kind_of_want, is_of};
 ghost use Rattle.tree_state.specs.Inside.Sums.{asks_in, both_ask, asks_of};
 
-use tree_types::Want;
+use tree_types::{Path, Want};
 
 /// A kind of want.
 #[derive(Clone, Copy, Debug, PartialEq, Eq)]
@@ -70,8 +69,8 @@ impl Asks {
     }
 
     /// Some task may begin.
-    pub(crate) fn beginning() -> Asks
-        ensures { (p : Path) → result ≡ asks_in (lines.MayBegin p ∷ []) }
+    pub(crate) fn beginning(_task: &Path) -> Asks
+        ensures { result ≡ asks_in (lines.MayBegin _task.now ∷ []) }
     {
         Asks {
             beginnings: true,

@@ -1,6 +1,6 @@
 //! What a call makes.
 
-ghost use Rattle.std.specs.Prelude.{◌≡◌, ◌≤◌, ◌^◌, [], ◌∷◌, OnOk, map, option_copied};
+ghost use Rattle.std.specs.Prelude.{◌≡◌, ◌≤◌, ◌^◌, [], ◌∷◌, IfOk, OnOk, map, option_copied};
 ghost use Rattle.std.specs.List.{find};
 ghost use Rattle.meaning.specs.Trees.{wants_in, beginnings_in};
 ghost use Rattle.tree_state.specs.Asking.{is_of, first};
@@ -8,6 +8,7 @@ ghost use Rattle.tree_types.specs.Phases as phases;
 ghost use Rattle.meaning.specs.Lines as lines;
 ghost use Rattle.meaning.specs.Calls as calls;
 ghost use Rattle.meaning.specs.declared.lines.Line.TheVariants as line;
+ghost use Rattle.tree_state.specs.Inside.Kids.{own_line};
 ghost use Rattle.tree_state.specs.Inside.Sums.{asks_in};
 
 use crate::kinds::Asks;
@@ -25,11 +26,44 @@ pub(crate) enum Line {
     Asks(Want),
 }
 
+impl Line {
+    // What it asks for.
+    fn asks(&self) -> Asks
+        ensures { result ≡ asks_in (lines.lines_below (own_line self.now lines.nothing)) }
+    {
+        match self {
+            Line::MayBegin(path) => Asks::beginning(path),
+            Line::Asks(want) => Asks::one(want),
+        }
+    }
+
+    // What it asks for, if that is of this kind.
+    fn want(&self, kind: WantKind) -> Option<&Want>
+        ensures { option_copied result
+            ≡ find (is_of kind) (wants_in (lines.lines_below (own_line self.now lines.nothing))) }
+    {
+        match self {
+            Line::MayBegin(_) => None,
+            Line::Asks(want) => { if kind.is_of(want) { Some(want) } else { None } }
+        }
+    }
+
+    fn beginning(&self) -> Option<&Path>
+        ensures { option_copied result
+            ≡ first (beginnings_in (lines.lines_below (own_line self.now lines.nothing))) }
+    {
+        match self {
+            Line::MayBegin(path) => Some(path),
+            Line::Asks(_) => None,
+        }
+    }
+}
+
 // What stands below a node: a line of its own, or what a call made.
 #[cycle(state)]
 #[derive(Debug, Drop)]
 pub(crate) struct Kid {
-    pub(crate) line: Option<Line>,
+    pub(crate) line: Option<Arc<Line>>,
     pub(crate) state: Option<Arc<State>>,
 }
 
@@ -73,6 +107,7 @@ impl Model for State {
     ghost invariant = { λ a. a.sum ≡ sum_of (parts_of a.kids.items) };
 
     ghost use Rattle.tree_state.specs.Counting.{count};
+    ghost use Rattle.tree_state.specs.Replacing.{call_at, with_call};
 
     ghost size = { count };
 
@@ -96,6 +131,7 @@ fn asks_of_node(wants: &Wants) -> Asks
 impl State {
     ghost use Rattle.tree_state.specs.Telling.{told_with};
     ghost use Rattle.tree_state.specs.Counting.{count};
+    ghost use Rattle.tree_state.specs.Replacing.{call_at, with_call};
     ghost use Rattle.tree_state.specs.Making.{of_loop, with_want};
 
     /// A node with what it asks for and what stands below it.
@@ -134,10 +170,9 @@ impl State {
         ensures { OnOk result (self.new ≡ calls.then_hook self.old hook) }
     {
         let finished = hook.finished;
-        let alloc = self.node.name.allocator();
-        let sum = self.sum.and(hook.count(), hook.asks())?;
-        let state = Some(Arc::new(alloc, hook)?);
-        self.kids.push(Kid { line: None, state })?;
+        let kid = Kid::of(hook)?;
+        let sum = self.sum.and(kid.count(), kid.asks())?;
+        self.kids.push(kid)?;
         self.sum = sum;
         self.finished = finished;
         Ok(())
@@ -206,6 +241,43 @@ impl State {
         asks_of_node(&self.wants).and(self.sum.asks)
     }
 
+    /// The call of this position among the calls below the node.
+    pub fn call_at(&self, position: usize) -> Option<&State>
+        ensures { option_copied result ≡ call_at self.now.parts position }
+    {
+        let mut left = position;
+        for kid in &self.kids {
+            if let Some(state) = &kid.state {
+                if left == 0 {
+                    return Some(state);
+                }
+                left -= 1;
+            }
+        }
+        None
+    }
+
+    /// The same node over another call at this position. All other calls are shared with this state.
+    pub fn with_call(&self, position: usize, call: State) -> Result<State, Memory>
+        ensures { IfOk result (λ state. state ≡ with_call self.now position call) }
+    {
+        let mut below = Below::new(self.node.name.allocator());
+        let mut left = position;
+        let mut call = Some(call);
+        for kid in &self.kids {
+            below.add(kid.or_replaced(&mut left, &mut call)?)?;
+        }
+        Ok(State {
+            node: self.node.copy()?,
+            wants: self.wants.copy()?,
+            finished: self.finished,
+            any_succeeded: self.any_succeeded,
+            all_failed: self.all_failed,
+            kids: below.kids,
+            sum: below.sum,
+        })
+    }
+
     /// The first want of a kind, in tree order. What has none of the kind is not looked through.
     #[cycle(first_want)]
     pub fn first_want(&self, kind: WantKind) -> Option<&Want>
@@ -267,7 +339,92 @@ fn first_of(wants: &Wants, kind: WantKind) -> Option<&Want>
 }
 
 impl Kid {
-    ghost use Rattle.meaning.specs.Lines.{lines_below, nothing};
+    ghost use Rattle.meaning.specs.Lines.{Parts, lines_below, nothing};
+    ghost use Rattle.tree_state.specs.Inside.Kids.{line_then, state_then, kid_parts, kid_before, replaced_by};
+    ghost use Rattle.tree_state.specs.Counting.{count_below};
+
+    /// What a call made.
+    pub(crate) fn of(state: State) -> Result<Kid, Memory>
+        ensures { IfOk result (λ kid. kid_parts kid ≡ lines.row_of (state ∷ [])) }
+    {
+        let alloc = state.node.name.allocator();
+        let state = Some(Arc::new(alloc, state)?);
+        Ok(Kid { line: None, state })
+    }
+
+    pub(crate) fn count(&self) -> usize
+        ensures { result ≡ count_below (kid_parts self.now) }
+    {
+        match &self.state {
+            None => 0,
+            Some(state) => state.count(),
+        }
+    }
+
+    // Which kinds of wants the kid's own line asks for.
+    fn own_asks(&self) -> Asks
+        ensures { result ≡ asks_in (lines_below (line_then self.now.line nothing)) }
+    {
+        match &self.line {
+            None => Asks::nothing(),
+            Some(line) => line.asks(),
+        }
+    }
+
+    // Which kinds of wants the kid's call asks for.
+    fn call_asks(&self) -> Asks
+        ensures { result ≡ asks_in (lines_below (state_then self.now.state nothing)) }
+    {
+        match &self.state {
+            None => Asks::nothing(),
+            Some(state) => state.asks(),
+        }
+    }
+
+    pub(crate) fn asks(&self) -> Asks
+        ensures { result ≡ asks_in (lines_below (kid_parts self.now)) }
+    {
+        self.own_asks().and(self.call_asks())
+    }
+
+    fn own_line(&self) -> Result<Option<Arc<Line>>, Memory>
+        ensures { IfOk result (λ line. (more : Parts) → line_then line more ≡ line_then self.now.line more) }
+    {
+        match &self.line {
+            None => Ok(None),
+            Some(line) => Ok(Some(Arc::try_clone(line)?)),
+        }
+    }
+
+    fn own_state(&self) -> Result<Option<Arc<State>>, Memory>
+        ensures { IfOk result (λ state. (more : Parts) → state_then state more ≡ state_then self.now.state more) }
+    {
+        match &self.state {
+            None => Ok(None),
+            Some(state) => Ok(Some(Arc::try_clone(state)?)),
+        }
+    }
+
+    // The kid, or the call in its place where it is the one to be replaced: the one behind so many calls that are left.
+    fn or_replaced(&self, left: &mut usize, call: &mut Option<State>) -> Result<Kid, Memory>
+        ensures { IfOk result (λ kid. (rest : Parts) →
+            kid_before kid (replaced_by rest left.new call.new)
+            ≡ replaced_by (kid_before self.now rest) left.old call.old) }
+    {
+        let line = self.own_line()?;
+        if self.state.is_none() {
+            return Ok(Kid { line, state: None });
+        }
+        if *left > 0 {
+            *left -= 1;
+        } else if let Some(call) = call.take() {
+            let alloc = call.node.name.allocator();
+            let state = Some(Arc::new(alloc, call)?);
+            return Ok(Kid { line, state });
+        }
+        let state = self.own_state()?;
+        Ok(Kid { line, state })
+    }
 
     // A want of the kid's own line, if it is of this kind.
     fn own_want(&self, kind: WantKind) -> Option<&Want>
@@ -275,8 +432,8 @@ impl Kid {
             ≡ find (is_of kind) (wants_in (lines_below (line_then self.now.line nothing))) }
     {
         match &self.line {
-            Some(Line::Asks(want)) => { if kind.is_of(want) { Some(want) } else { None } }
-            _ => None,
+            None => None,
+            Some(line) => line.want(kind),
         }
     }
 
@@ -300,8 +457,8 @@ impl Kid {
             ≡ first (beginnings_in (lines_below (line_then self.now.line nothing))) }
     {
         match &self.line {
-            Some(Line::MayBegin(path)) => Some(path),
-            _ => None,
+            None => None,
+            Some(line) => line.beginning(),
         }
     }
 
@@ -320,7 +477,6 @@ impl Kid {
     }
 
     ghost use Rattle.tree_state.specs.Telling.{told_with};
-    ghost use Rattle.tree_state.specs.Inside.Kids.{line_then, state_then};
 
     #[cycle(tell)]
     fn tell(&self, told: &mut Told) -> Result<(), Memory>

@@ -3,11 +3,12 @@
 ghost use Rattle.std.specs.Prelude.{◌≡◌, [], ◌∷◌, OnOk};
 ghost use Rattle.meaning.specs.Lines.{lines_over, lines_below, nothing};
 ghost use Rattle.tree_state.specs.Telling.{told_with, no_lines};
-ghost use Rattle.tree_state.specs.Inside.Kids.{line_then};
+ghost use Rattle.tree_state.specs.Inside.Kids.{own_line, line_then};
 
 use crate::state::Line;
 use base_types::{List, Memory, TryCopy};
 use std::alloc::Global;
+use std::sync::Arc;
 use tree_types::{Node, Nodes, Path, Wants};
 
 /// Nodes, what they ask for, and the tasks that may begin, each in tree order.
@@ -41,15 +42,24 @@ impl Told {
         Ok(())
     }
 
+    fn add_own(&mut self, line: &Line) -> Result<(), Memory>
+        ensures { OnOk result
+            (self.new ≡ told_with self.old (lines_below (own_line line.now nothing))) }
+    {
+        match line {
+            Line::MayBegin(path) => self.beginnings.push(path.copy()?),
+            Line::Asks(want) => self.wants.push(want.copy()?),
+        }
+    }
+
     // Adds a line that is no call's, if there is one.
-    pub(crate) fn add_line(&mut self, line: &Option<Line>) -> Result<(), Memory>
+    pub(crate) fn add_line(&mut self, line: &Option<Arc<Line>>) -> Result<(), Memory>
         ensures { OnOk result
             (self.new ≡ told_with self.old (lines_below (line_then line.now nothing))) }
     {
         match line {
             None => Ok(()),
-            Some(Line::MayBegin(path)) => self.beginnings.push(path.copy()?),
-            Some(Line::Asks(want)) => self.wants.push(want.copy()?),
+            Some(line) => self.add_own(line),
         }
     }
 }
