@@ -1,6 +1,8 @@
 -- One call in the place of another.
-use Rattle.std.specs.Prelude.{ℕ, zero, suc, Option, Some, None}
-use Rattle.meaning.specs.Lines.{Parts, nothing, call, may_begin, asks, Made}
+use Rattle.std.specs.Prelude.{ℕ, zero, suc, Bool, List, Option, Some, None}
+use Rattle.std.specs.List.{list_any, list_all}
+use Rattle.tree_types.specs.Phases.{is_succeeded, is_failed}
+use Rattle.meaning.specs.Lines.{Parts, nothing, call, may_begin, asks, Made, row_in}
 
 -- the call of this position among the calls
 abbrev pub call_at : Parts → ℕ → Option Made
@@ -21,3 +23,20 @@ replaced (asks w rest) i m = asks w (replaced rest i m)
 -- the same node over another call at this position
 abbrev pub with_call : Made → ℕ → Made → Made
 with_call b i m = record b { parts = replaced b.parts i m }
+
+-- ---- the same of a looped call, of which others see how its items ended
+
+abbrev pub some_succeeded : List Made → Bool
+some_succeeded ms = list_any (λ m. is_succeeded m.own.node.phase) ms
+
+abbrev pub all_fell : List Made → Bool
+all_fell ms = list_all (λ m. is_failed m.own.node.phase) ms
+
+abbrev pub over_items : Made → Parts → Made
+over_items b parts = record {
+  own = record b.own { any_succeeded = some_succeeded (row_in parts); all_failed = all_fell (row_in parts) };
+  parts = parts;
+}
+
+abbrev pub with_item : Made → ℕ → Made → Made
+with_item b i m = over_items b (replaced b.parts i m)

@@ -2,6 +2,7 @@
 
 ghost use Rattle.std.specs.Prelude.{◌≡◌, ◌≤◌, ◌^◌, [], ◌∷◌, IfOk, OnOk, map, option_copied};
 ghost use Rattle.std.specs.List.{find};
+ghost use Rattle.meaning.specs.Lines.{row_in};
 ghost use Rattle.meaning.specs.Trees.{wants_in, beginnings_in};
 ghost use Rattle.tree_state.specs.Asking.{is_of, first};
 ghost use Rattle.tree_types.specs.Phases as phases;
@@ -107,7 +108,6 @@ impl Model for State {
     ghost invariant = { λ a. a.sum ≡ sum_of (parts_of a.kids.items) };
 
     ghost use Rattle.tree_state.specs.Counting.{count};
-    ghost use Rattle.tree_state.specs.Replacing.{call_at, with_call};
 
     ghost size = { count };
 
@@ -131,7 +131,7 @@ fn asks_of_node(wants: &Wants) -> Asks
 impl State {
     ghost use Rattle.tree_state.specs.Telling.{told_with};
     ghost use Rattle.tree_state.specs.Counting.{count};
-    ghost use Rattle.tree_state.specs.Replacing.{call_at, with_call};
+    ghost use Rattle.tree_state.specs.Replacing.{call_at, with_call, some_succeeded, all_fell, with_item};
     ghost use Rattle.tree_state.specs.Making.{of_loop, with_want};
 
     /// A node with what it asks for and what stands below it.
@@ -255,6 +255,60 @@ impl State {
             }
         }
         None
+    }
+
+    /// Whether all calls below the node are finished.
+    pub fn all_finished(&self) -> bool
+        ensures { result ≡ lines.all_finished (row_in self.now.parts) }
+    {
+        for kid in &self.kids {
+            if let Some(state) = &kid.state {
+                if !state.finished {
+                    return false;
+                }
+            }
+        }
+        true
+    }
+
+    // Whether some call below the node Succeeded.
+    fn some_succeeded(&self) -> bool
+        ensures { result ≡ some_succeeded (row_in self.now.parts) }
+    {
+        for kid in &self.kids {
+            if let Some(state) = &kid.state {
+                if state.phase() == Phase::Succeeded {
+                    return true;
+                }
+            }
+        }
+        false
+    }
+
+    // Whether all calls below the node Failed.
+    fn all_fell(&self) -> bool
+        ensures { result ≡ all_fell (row_in self.now.parts) }
+    {
+        for kid in &self.kids {
+            if let Some(state) = &kid.state {
+                if state.phase() != Phase::Failed {
+                    return false;
+                }
+            }
+        }
+        true
+    }
+
+    /// The same node of a looped call over another item at this position.
+    pub fn with_item(&self, position: usize, item: State) -> Result<State, Memory>
+        ensures { IfOk result (λ state. state ≡ with_item self.now position item) }
+    {
+        let mut state = self.with_call(position, item)?;
+        let any_succeeded = state.some_succeeded();
+        let all_failed = state.all_fell();
+        state.any_succeeded = any_succeeded;
+        state.all_failed = all_failed;
+        Ok(state)
     }
 
     /// The same node over another call at this position. All other calls are shared with this state.
