@@ -5,5 +5,5 @@ mod over;
 mod templates;
 mod walk;
 
-pub use templates::{Positions, positions_of};
+pub use templates::{Positions, find_template, positions_of};
 pub use walk::top_state;
