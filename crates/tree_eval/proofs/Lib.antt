@@ -1,3 +1,4 @@
 mod KindNamed
 mod Calling
+mod Firsts
 mod Running

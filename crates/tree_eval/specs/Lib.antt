@@ -1,6 +1,9 @@
-pub mod Told
 pub mod Inside
-pub use Rattle.wf_manifest.specs.Valid
+pub mod Told
+pub mod Whole
+pub mod Within
 pub use Rattle.meaning.specs.Answers
 pub use Rattle.meaning.specs.Trees
 pub use Rattle.recorded.specs.Ends
+pub use Rattle.tree_state.specs.Asking
+pub use Rattle.wf_manifest.specs.Valid

@@ -6,7 +6,9 @@ mod roots;
 mod stages;
 mod tops;
 mod whole;
+mod workflow_tree;
 
 pub use recorded::{Ended, JournalIndex, MemoAnswer, Recorded};
-pub use tree_state::TreeRefused;
+pub use tree_state::{TreeRefused, WantKind};
 pub use whole::{Evaluated, evaluate, tree, wants};
+pub use workflow_tree::WorkflowTree;

@@ -9,33 +9,40 @@ ghost use Rattle.meaning.specs.Answers.{path};
 ghost use Rattle.meaning.specs.Trees as trees;
 ghost use Rattle.tree_eval.specs.Inside.Stages as inside;
 
-use crate::Evaluated;
 use crate::roots::{root_kind, root_place};
 use crate::tops::Tops;
+use crate::workflow_tree::WorkflowTree;
 use base_types::{Memory, TryCopy};
 use call_nodes::bare;
 use hooks_exit::law::phase_is_meant;
 use recorded::Recorded;
-use tree_state::{Told, TreeRefused};
+use tree_state::{Below, State, TreeRefused};
 use tree_types::{LockId, Note, Path, Phase, Sels, Want, Wants};
 use wf_manifest::Manifest;
 
 /// The root alone, with this note, and what it asks for.
-pub fn pending(manifest: &Manifest, note: Note, wants: &Wants) -> Result<Evaluated, Memory>
-    ensures { IfOk result (λ whole.
-        whole ≡ inside.whole_of (inside.pending_lines manifest.now note wants.now) phases.Pending) }
+pub fn pending(manifest: &Manifest, note: Note, wants: Wants) -> Result<WorkflowTree, Memory>
+    ensures { IfOk result (λ whole. whole ≡ record {
+      lines = inside.pending_lines manifest.now note wants;
+      phase = phases.Pending;
+    }) }
 {
     let place = root_place(manifest)?;
     let node = bare(place, root_kind(manifest), Phase::Pending, note);
-    let mut told = Told::new(manifest.name.allocator());
-    told.add_node(&node, wants)?;
-    Ok(Evaluated::of(told, Phase::Pending))
+    let main = State::new(node, wants, Below::new(manifest.name.allocator()));
+    Ok(WorkflowTree {
+        tops: Tops { main, exit: None },
+        phase: Phase::Pending,
+    })
 }
 
 /// The root alone, which waits for the workflow's own lock.
-pub fn waiting(manifest: &Manifest, lock: &LockId) -> Result<Evaluated, Memory>
-    ensures { IfOk result (λ whole. whole ≡ inside.whole_of (inside.pending_lines manifest.now
-        (notes.Waiting lock.now) (asked.Lock (path []) lock.now ∷ [])) phases.Pending) }
+pub fn waiting(manifest: &Manifest, lock: &LockId) -> Result<WorkflowTree, Memory>
+    ensures { IfOk result (λ whole. whole ≡ record {
+      lines = inside.pending_lines manifest.now
+          (notes.Waiting lock.now) (asked.Lock (path []) lock.now ∷ []);
+      phase = phases.Pending;
+    }) }
 {
     let alloc = manifest.name.allocator();
     let path = Path {
@@ -43,7 +50,7 @@ pub fn waiting(manifest: &Manifest, lock: &LockId) -> Result<Evaluated, Memory>
     };
     let mut wants = Wants::new(alloc);
     wants.push(Want::Lock(path, lock.copy()?))?;
-    pending(manifest, Note::Waiting(lock.copy()?), &wants)
+    pending(manifest, Note::Waiting(lock.copy()?), wants)
 }
 
 /// The workflow's own lock, while it is not granted.
@@ -59,7 +66,7 @@ pub fn awaited<'a, R: Recorded>(manifest: &'a Manifest, recorded: &R) -> Option<
 }
 
 /// What the entrypoint makes, and the exit handler where it runs.
-pub fn running<R: Recorded>(manifest: &Manifest, recorded: &R) -> Result<Evaluated, TreeRefused>
+pub fn running<R: Recorded>(manifest: &Manifest, recorded: &R) -> Result<WorkflowTree, TreeRefused>
     requires valid { Valid manifest.now }
     requires runs { inside.Runs manifest.now (R.answers recorded.now) }
     ensures { let answers = R.answers recorded.now in
@@ -67,6 +74,6 @@ pub fn running<R: Recorded>(manifest: &Manifest, recorded: &R) -> Result<Evaluat
 {
     phase_is_meant();
     let tops = Tops::of(manifest, recorded)?;
-    let told = tops.tell(manifest.name.allocator())?;
-    Ok(Evaluated::of(told, tops.phase()))
+    let phase = tops.phase();
+    Ok(WorkflowTree { tops, phase })
 }

@@ -1,6 +1,9 @@
 //! What the entrypoint makes, and the exit handler.
 
-ghost use Rattle.std.specs.Prelude.{◌≡◌, IfOk, OnOk, option_copied};
+ghost use Rattle.std.specs.Prelude.{◌≡◌, IfOk, OnOk, option_copied, length};
+ghost use Rattle.std.specs.List.{find};
+ghost use Rattle.meaning.specs.Trees.{nodes_in, wants_in, beginnings_in};
+ghost use Rattle.tree_state.specs.Asking.{is_of, first};
 ghost use Rattle.scopes.specs.Values.{HasValuesOf};
 ghost use Rattle.meaning.specs.Trees as trees;
 ghost use Rattle.wf_manifest.specs.Valid.{Valid};
@@ -16,8 +19,8 @@ use hooks_exit::workflow_phase;
 use recorded::Recorded;
 use scopes::Scope;
 use std::alloc::Global;
-use tree_state::{Room, State, Told, TreeRefused};
-use tree_types::Phase;
+use tree_state::{Room, State, Told, TreeRefused, WantKind, counts_nodes};
+use tree_types::{Path, Phase, Want};
 use tree_walk::{Positions, positions_of, top_state};
 use wf_manifest::Manifest;
 
@@ -119,6 +122,43 @@ impl Tops {
         ensures { result ≡ inside.phase_of self.now }
     {
         workflow_phase(self.main.phase(), exit_phase(&self.exit))
+    }
+
+    /// How many nodes both have.
+    pub fn count(&self) -> usize
+        ensures { result ≡ length (nodes_in (inside.lines_of self.now)) }
+    {
+        counts_nodes();
+        match &self.exit {
+            None => self.main.count(),
+            Some(exit) => self.main.count() + exit.count(),
+        }
+    }
+
+    /// The first want of a kind, in tree order.
+    pub fn first_want(&self, kind: WantKind) -> Option<&Want>
+        ensures { option_copied result ≡ find (is_of kind) (wants_in (inside.lines_of self.now)) }
+    {
+        if let Some(want) = self.main.first_want(kind) {
+            return Some(want);
+        }
+        match &self.exit {
+            None => None,
+            Some(exit) => exit.first_want(kind),
+        }
+    }
+
+    /// The first task that may begin, in tree order.
+    pub fn first_beginning(&self) -> Option<&Path>
+        ensures { option_copied result ≡ first (beginnings_in (inside.lines_of self.now)) }
+    {
+        if let Some(path) = self.main.first_beginning() {
+            return Some(path);
+        }
+        match &self.exit {
+            None => None,
+            Some(exit) => exit.first_beginning(),
+        }
     }
 
     /// The lines of both, kind by kind.

@@ -5,11 +5,10 @@ ghost use Rattle.tree_state.specs.declared.refused.TreeRefused.TheVariants as re
 ghost use Rattle.wf_manifest.specs.Valid.{Valid};
 ghost use Rattle.tree_eval.specs.Told.{tree_of, meant, meant_tree, meant_wants};
 
-use crate::stages::{awaited, pending, running, waiting};
-use crate::{Recorded, TreeRefused};
+use crate::{Recorded, TreeRefused, WorkflowTree};
 use base_types::List;
 use tree_state::Told;
-use tree_types::{Note, Path, Phase, Tree, Wants};
+use tree_types::{Path, Phase, Tree, Wants};
 use wf_manifest::Manifest;
 
 /// A tree, what its nodes ask for, the tasks that may begin, and the phase of its workflow; each list in tree order.
@@ -47,14 +46,8 @@ pub fn evaluate<R: Recorded>(manifest: &Manifest, recorded: &R) -> Result<Evalua
     requires valid { Valid manifest.now }
     ensures { result ≢ Err refused.Memory → result ≡ meant manifest.now (R.answers recorded.now) }
 {
-    if !recorded.started() {
-        let nothing = Wants::new(manifest.name.allocator());
-        return Ok(pending(manifest, Note::None, &nothing)?);
-    }
-    match awaited(manifest, recorded) {
-        Some(lock) => Ok(waiting(manifest, lock)?),
-        None => running(manifest, recorded),
-    }
+    let tree = WorkflowTree::of(manifest, recorded)?;
+    Ok(tree.tell(manifest.name.allocator())?)
 }
 
 /// The tree of a manifest over what is recorded of it.

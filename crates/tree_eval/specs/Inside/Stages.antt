@@ -9,19 +9,14 @@ use Rattle.wf_manifest.specs.declared.manifest.Manifest.{Manifest}
 use Rattle.meaning.specs.declared.lines.Line.{Line}
 use Rattle.meaning.specs.Answers.{Answers}
 use Rattle.meaning.specs.Lines.{lines_over}
-use Rattle.meaning.specs.Trees.{pending_root, lock_granted, nodes_in, wants_in, beginnings_in}
+use Rattle.meaning.specs.Trees.{pending_root, lock_granted, nodes_in}
 use Rattle.tree_state.specs.declared.refused.TreeRefused.{TreeRefused}
 use Rattle.tree_state.specs.declared.refused.TreeRefused.TheVariants.{TooLarge, Memory}
-use Rattle.tree_eval.specs.declared.whole.Evaluated.{Evaluated}
-use Rattle.tree_eval.specs.Told.{tree_of}
+use Rattle.tree_eval.specs.Whole.{Whole}
 
--- what is told of these lines
-abbrev pub whole_of : List Line → Phase → Evaluated
-whole_of ls p = record { tree = tree_of (nodes_in ls); wants = wants_in ls; beginnings = beginnings_in ls; phase = p }
-
--- that, or there are too many nodes among the lines
-abbrev pub GivesWhole : Result Evaluated TreeRefused → List Line → Phase → Type 0
-GivesWhole (Ok whole) ls p = (whole ≡ whole_of ls p) × (length (nodes_in ls) ≤ most_nodes)
+-- these, or there are too many nodes among the lines
+abbrev pub GivesWhole : Result Whole TreeRefused → List Line → Phase → Type 0
+GivesWhole (Ok whole) ls p = (whole ≡ record { lines = ls; phase = p }) × (length (nodes_in ls) ≤ most_nodes)
 GivesWhole (Err TooLarge) ls p = most_nodes < length (nodes_in ls)
 GivesWhole (Err Memory) ls p = Unit {0}
 

@@ -8,4 +8,4 @@ returns-in_err-tops g c =
 
 pub returns : goal.returns
 returns g c =
-    run_told c.args.manifest.now (g.R.Recorded.answers c.args.recorded.now) c.requires.runs c.phase_is_meant.ensures c.in_ok-tops.tops c.in_ok-told.told c.phase.result c.of-2.result c.in_ok-tops.ensures c.in_ok-told.ensures c.phase.ensures c.of-2.ensures
+    run_told c.args.manifest.now (g.R.Recorded.answers c.args.recorded.now) c.requires.runs c.phase_is_meant.ensures c.in_ok-tops.tops c.phase-phase.result c.in_ok-tops.ensures c.phase-phase.ensures
