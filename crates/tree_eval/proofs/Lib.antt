@@ -1,4 +1,5 @@
-mod KindNamed
+mod After
 mod Calling
 mod Firsts
+mod KindNamed
 mod Running

@@ -1,9 +1,13 @@
+pub mod After
 pub mod Inside
 pub mod Told
 pub mod Whole
+pub mod WholeCode
 pub mod Within
 pub use Rattle.meaning.specs.Answers
 pub use Rattle.meaning.specs.Trees
 pub use Rattle.recorded.specs.Ends
 pub use Rattle.tree_state.specs.Asking
 pub use Rattle.wf_manifest.specs.Valid
+pub use Rattle.locality.specs.Answered
+pub use Rattle.tree_walk.specs.Index

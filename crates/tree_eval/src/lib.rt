@@ -2,6 +2,7 @@
 //! of the workflow.
 #![tactic(auto)]
 
+pub mod law;
 mod roots;
 mod stages;
 mod tops;

@@ -1,12 +1,12 @@
 //! A workflow before it runs, and while it runs.
 
-ghost use Rattle.std.specs.Prelude.{◌≡◌, [], ◌∷◌, IfOk, option_copied};
+ghost use Rattle.std.specs.Prelude.{◌≡◌, [], ◌∷◌, IfOk, None, option_copied};
 ghost use Rattle.tree_types.specs.declared.phase.Phase.TheVariants as phases;
 ghost use Rattle.tree_types.specs.declared.node.Note.TheVariants as notes;
 ghost use Rattle.tree_types.specs.declared.want.Want.TheVariants as asked;
 ghost use Rattle.wf_manifest.specs.Valid.{Valid};
 ghost use Rattle.meaning.specs.Answers.{path};
-ghost use Rattle.meaning.specs.Trees as trees;
+ghost use Rattle.tree_eval.specs.Whole as wholes;
 ghost use Rattle.tree_eval.specs.Inside.Stages as inside;
 
 use crate::roots::{root_kind, root_place};
@@ -23,7 +23,8 @@ use wf_manifest::Manifest;
 /// The root alone, with this note, and what it asks for.
 pub fn pending(manifest: &Manifest, note: Note, wants: Wants) -> Result<WorkflowTree, Memory>
     ensures { IfOk result (λ whole. whole ≡ record {
-      lines = inside.pending_lines manifest.now note wants;
+      main = (wholes.root_alone manifest.now note wants).0;
+      exit = None;
       phase = phases.Pending;
     }) }
 {
@@ -39,8 +40,9 @@ pub fn pending(manifest: &Manifest, note: Note, wants: Wants) -> Result<Workflow
 /// The root alone, which waits for the workflow's own lock.
 pub fn waiting(manifest: &Manifest, lock: &LockId) -> Result<WorkflowTree, Memory>
     ensures { IfOk result (λ whole. whole ≡ record {
-      lines = inside.pending_lines manifest.now
-          (notes.Waiting lock.now) (asked.Lock (path []) lock.now ∷ []);
+      main = (wholes.root_alone manifest.now
+          (notes.Waiting lock.now) (asked.Lock (path []) lock.now ∷ [])).0;
+      exit = None;
       phase = phases.Pending;
     }) }
 {
@@ -69,8 +71,7 @@ pub fn awaited<'a, R: Recorded>(manifest: &'a Manifest, recorded: &R) -> Option<
 pub fn running<R: Recorded>(manifest: &Manifest, recorded: &R) -> Result<WorkflowTree, TreeRefused>
     requires valid { Valid manifest.now }
     requires runs { inside.Runs manifest.now (R.answers recorded.now) }
-    ensures { let answers = R.answers recorded.now in
-        inside.GivesWhole result (trees.lines manifest.now answers) (trees.phase manifest.now answers) }
+    ensures { inside.GivesWhole result manifest.now (R.answers recorded.now) }
 {
     phase_is_meant();
     let tops = Tops::of(manifest, recorded)?;

@@ -5,6 +5,7 @@ ghost use Rattle.tree_state.specs.declared.refused.TreeRefused.TheVariants as re
 ghost use Rattle.wf_manifest.specs.Valid.{Valid};
 ghost use Rattle.tree_eval.specs.Told.{tree_of, meant, meant_tree, meant_wants};
 
+use crate::law::lines_are_meant;
 use crate::{Recorded, TreeRefused, WorkflowTree};
 use base_types::List;
 use tree_state::Told;
@@ -46,6 +47,7 @@ pub fn evaluate<R: Recorded>(manifest: &Manifest, recorded: &R) -> Result<Evalua
     requires valid { Valid manifest.now }
     ensures { result ≢ Err refused.Memory → result ≡ meant manifest.now (R.answers recorded.now) }
 {
+    lines_are_meant();
     let tree = WorkflowTree::of(manifest, recorded)?;
     Ok(tree.tell(manifest.name.allocator())?)
 }

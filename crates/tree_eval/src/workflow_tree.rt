@@ -6,20 +6,26 @@ ghost use Rattle.meaning.specs.Trees.{nodes_in, wants_in, beginnings_in};
 ghost use Rattle.tree_state.specs.declared.refused.TreeRefused.TheVariants as refused;
 ghost use Rattle.tree_state.specs.Asking.{is_of, first};
 ghost use Rattle.wf_manifest.specs.Valid.{Valid};
+ghost use Rattle.tree_walk.specs.Index.{IsReady};
+ghost use Rattle.tree_eval.specs.After.{Follows};
 ghost use Rattle.tree_eval.specs.Told.{evaluated};
-ghost use Rattle.tree_eval.specs.Whole.{meant_whole};
+ghost use Rattle.tree_eval.specs.Whole.{meant_whole, lines_of};
 
 use crate::stages::{awaited, pending, running, waiting};
 use crate::tops::Tops;
 use crate::{Evaluated, Recorded, TreeRefused};
 use base_types::Memory;
+use base_types::limits::MOST_NODES;
 use std::alloc::Global;
 use std::marker::Model;
+use tree_change::{changed_top, split};
 use tree_state::{State, WantKind};
-use tree_types::{Note, Path, Phase, Want, Wants};
+use tree_types::{Note, Path, Phase, Sel, Want, Wants};
+use tree_walk::Positions;
 use wf_manifest::Manifest;
 
-/// The tree of a workflow as its calls made it, and the phase of the workflow. Contracts see its lines and the phase.
+/// The tree of a workflow as its calls made it, and the phase of the workflow. Contracts see what they
+/// made and the phase.
 #[derive(Drop)]
 pub struct WorkflowTree {
     pub(crate) tops: Tops,
@@ -28,12 +34,13 @@ pub struct WorkflowTree {
 
 impl Model for WorkflowTree {
     ghost use Rattle.tree_eval.specs.Whole.{Whole};
+    ghost use Rattle.tree_eval.specs.WholeCode.{whole_code};
 
     ghost Value = { Whole };
 
-    ghost use Rattle.tree_eval.specs.Inside.Tops.{lines_of};
+    ghost coded = { whole_code };
 
-    ghost view = { λ a. record { lines = lines_of a.tops; phase = a.phase } };
+    ghost view = { λ a. record { main = a.tops.main; exit = a.tops.exit; phase = a.phase } };
 }
 
 impl WorkflowTree {
@@ -55,6 +62,44 @@ impl WorkflowTree {
         }
     }
 
+    /// The tree once one fact more is recorded, where it follows from this one: the path of the fact is `changed`, and what is
+    /// on no way to it is shared. There is none where the tree has to be made anew.
+    pub fn after<R: Recorded>(
+        &self,
+        manifest: &Manifest,
+        positions: &Positions,
+        recorded: &R,
+        changed: &[Sel],
+    ) -> Result<Option<WorkflowTree>, Memory>
+        requires ready { IsReady manifest.now positions.now }
+        ensures { Follows self.now manifest.now (R.answers recorded.now) changed.now result }
+    {
+        let Phase::Running = self.phase else {
+            return Ok(None);
+        };
+        let Some((first, rest)) = split(changed) else {
+            return Ok(None);
+        };
+        let Sel::Main = first else {
+            return Ok(None);
+        };
+        let old = &self.tops.main;
+        let entry = &manifest.entrypoint;
+        let Some(main) = changed_top(manifest, positions, recorded, old, entry, rest)? else {
+            return Ok(None);
+        };
+        if main.is_finished() {
+            return Ok(None);
+        }
+        if main.count() > MOST_NODES {
+            return Ok(None);
+        }
+        Ok(Some(WorkflowTree {
+            tops: Tops { main, exit: None },
+            phase: Phase::Running,
+        }))
+    }
+
     /// The phase of the workflow.
     pub fn phase(&self) -> Phase
         ensures { result ≡ self.now.phase }
@@ -64,21 +109,21 @@ impl WorkflowTree {
 
     /// How many nodes the tree has.
     pub fn count(&self) -> usize
-        ensures { result ≡ length (nodes_in self.now.lines) }
+        ensures { result ≡ length (nodes_in (lines_of self.now)) }
     {
         self.tops.count()
     }
 
     /// The first want of a kind, in tree order, found without a walk over what asks for none of the kind.
     pub fn first_want(&self, kind: WantKind) -> Option<&Want>
-        ensures { option_copied result ≡ find (is_of kind) (wants_in self.now.lines) }
+        ensures { option_copied result ≡ find (is_of kind) (wants_in (lines_of self.now)) }
     {
         self.tops.first_want(kind)
     }
 
     /// The first task that may begin, in tree order.
     pub fn first_beginning(&self) -> Option<&Path>
-        ensures { option_copied result ≡ first (beginnings_in self.now.lines) }
+        ensures { option_copied result ≡ first (beginnings_in (lines_of self.now)) }
     {
         self.tops.first_beginning()
     }

@@ -8,21 +8,16 @@ use Rattle.tree_types.specs.declared.want.Want.{Want}
 use Rattle.wf_manifest.specs.declared.manifest.Manifest.{Manifest}
 use Rattle.meaning.specs.declared.lines.Line.{Line}
 use Rattle.meaning.specs.Answers.{Answers}
-use Rattle.meaning.specs.Lines.{lines_over}
-use Rattle.meaning.specs.Trees.{pending_root, lock_granted, nodes_in}
+use Rattle.meaning.specs.Trees.{lock_granted, lines, nodes_in}
 use Rattle.tree_state.specs.declared.refused.TreeRefused.{TreeRefused}
 use Rattle.tree_state.specs.declared.refused.TreeRefused.TheVariants.{TooLarge, Memory}
-use Rattle.tree_eval.specs.Whole.{Whole}
+use Rattle.tree_eval.specs.Whole.{Whole, whole}
 
--- these, or there are too many nodes among the lines
-abbrev pub GivesWhole : Result Whole TreeRefused → List Line → Phase → Type 0
-GivesWhole (Ok whole) ls p = (whole ≡ record { lines = ls; phase = p }) × (length (nodes_in ls) ≤ most_nodes)
-GivesWhole (Err TooLarge) ls p = most_nodes < length (nodes_in ls)
-GivesWhole (Err Memory) ls p = Unit {0}
-
--- the root alone, and what it asks for
-abbrev pub pending_lines : Manifest → Note → List Want → List Line
-pending_lines m n ws = lines_over (pending_root m n) ws []
+-- what the workflow is, or there are too many nodes
+abbrev pub GivesWhole : Result Whole TreeRefused → Manifest → Answers → Type 0
+GivesWhole (Ok w) m A = (w ≡ whole m A) × (length (nodes_in (lines m A)) ≤ most_nodes)
+GivesWhole (Err TooLarge) m A = most_nodes < length (nodes_in (lines m A))
+GivesWhole (Err Memory) m A = Unit {0}
 
 -- a lock that is not granted
 abbrev pub unless : Bool → Option LockId → Option LockId

@@ -1,0 +1,5 @@
+mod Changing
+mod Entering
+mod Given
+mod Opening
+mod Rows

@@ -1,0 +1,6 @@
+pub mod Changes
+pub mod Entered
+pub mod Open
+pub use Rattle.locality.specs.Answered
+pub use Rattle.meaning.specs.Trees
+pub use Rattle.tree_walk.specs.Index
