@@ -1,0 +1,8 @@
+//! Values whose copies share what they have in common, so that older values stay and a change costs little.
+#![tactic(auto)]
+
+mod row;
+mod shared;
+
+pub use row::Row;
+pub use shared::Shared;
