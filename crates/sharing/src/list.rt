@@ -1,0 +1,152 @@
+//! A list whose copies share what they have in common.
+
+ghost use Rattle.std.specs.Prelude.{◌≡◌, List as Seq, [], ◌∷◌, ◌++◌, ◌<◌, length, take, replicate, IfOk, OnOk, OnErr, slice_get, slice_set, option_copied};
+ghost use Rattle.sharing.specs.Inside.Chunks.{room, items_of, IsChunked};
+
+use crate::{Row, Shared};
+use base_types::{Memory, TryCopy};
+use std::alloc::Global;
+use std::marker::Model;
+
+/// How many items a chunk has.
+const ROOM: usize = 64;
+
+/// Items that other chunks may share.
+type Chunk<T> = Row<Shared<T>>;
+
+/// A list whose copies share what they have in common, and that contracts see as its items. A change copies at most the
+/// list of the chunks and one chunk, and no item.
+#[derive(Drop)]
+pub struct SharedList<T> {
+    full: Row<Chunk<T>>,
+    last: Chunk<T>,
+    len: usize,
+}
+
+impl<T> Model for SharedList<T> {
+    ghost use Rattle.std.specs.Prelude.{List as Seq};
+    ghost use Rattle.sharing.specs.Inside.Chunks.{items_of, IsKept};
+
+    ghost Value = { Seq T };
+
+    ghost view = { λ list. items_of list.full list.last };
+
+    ghost invariant = { λ list. IsKept list.full list.last list.len };
+}
+
+impl<T> SharedList<T> {
+    pub fn len(&self) -> usize
+        ensures { result ≡ length self.now }
+    {
+        self.len
+    }
+
+    /// The item at a position from 0.
+    pub fn get(&self, position: usize) -> Option<&T>
+        ensures { option_copied result ≡ slice_get self.now position }
+    {
+        match self.item(position) {
+            None => None,
+            Some(item) => Some(item.value()),
+        }
+    }
+
+    /// The item at a position from 0, for another list to share.
+    pub fn item(&self, position: usize) -> Option<&Shared<T>>
+        ensures { option_copied result ≡ slice_get self.now position }
+    {
+        let chunk = position / ROOM;
+        let full = self.full.len();
+        if chunk >= full {
+            return self.last.get(position - full * ROOM);
+        }
+        match self.full.get(chunk) {
+            None => None,
+            Some(chunk) => chunk.get(position % ROOM),
+        }
+    }
+
+    /// The allocator that the list is on.
+    pub fn allocator(&self) -> Global {
+        self.last.allocator()
+    }
+}
+
+impl<T: Drop> SharedList<T> {
+    pub fn new(alloc: Global) -> Result<SharedList<T>, Memory>
+        ensures { IfOk result (λ list. list ≡ []) }
+    {
+        Ok(SharedList {
+            full: Row::new(alloc)?,
+            last: Row::new(alloc)?,
+            len: 0,
+        })
+    }
+
+    /// The same list, at the cost of two owners more.
+    pub fn share(&self) -> Result<SharedList<T>, Memory>
+        ensures { IfOk result (λ list. list ≡ self.now) }
+    {
+        Ok(SharedList {
+            full: self.full.copy()?,
+            last: self.last.copy()?,
+            len: self.len,
+        })
+    }
+
+    /// Adds an item at the end. Where there is no memory, the item is dropped.
+    pub fn push(&mut self, item: T) -> Result<(), Memory>
+        ensures ok { OnOk result (self.new ≡ self.old ++ item ∷ []) }
+        ensures err { OnErr result (self.new ≡ self.old) }
+    {
+        let item = Shared::new(self.allocator(), item)?;
+        self.push_shared(item)
+    }
+
+    /// Adds an item that other lists may have.
+    pub fn push_shared(&mut self, item: Shared<T>) -> Result<(), Memory>
+        ensures ok { OnOk result (self.new ≡ self.old ++ item ∷ []) }
+        ensures err { OnErr result (self.new ≡ self.old) }
+    {
+        if self.len == usize::MAX {
+            return Err(Memory);
+        }
+        make_room(&mut self.full, &mut self.last)?;
+        self.last.push(item)?;
+        self.len += 1;
+        Ok(())
+    }
+
+    /// Replaces the item at a position. Where there is no memory, the new item is dropped.
+    pub fn set(&mut self, position: usize, item: T) -> Result<(), Memory>
+        requires { position < length self.old }
+        ensures ok { OnOk result (self.new ≡ slice_set self.old position item) }
+        ensures err { OnErr result (self.new ≡ self.old) }
+    {
+        let item = Shared::new(self.allocator(), item)?;
+        let chunk = position / ROOM;
+        let full = self.full.len();
+        if chunk < full {
+            self.full.set_in(chunk, position % ROOM, item)?;
+        } else {
+            self.last.set(position - full * ROOM, item)?;
+        }
+        Ok(())
+    }
+}
+
+// Makes room in the last chunk: where it is full, it goes to the others, and an empty one comes in its place.
+fn make_room<T: Drop>(full: &mut Row<Chunk<T>>, last: &mut Chunk<T>) -> Result<(), Memory>
+    requires { IsChunked full.old last.old }
+    ensures chunked { IsChunked full.new last.new }
+    ensures same { items_of full.new last.new ≡ items_of full.old last.old }
+    ensures has_room { OnOk result (length last.new < room) }
+{
+    if last.len() < ROOM {
+        return Ok(());
+    }
+    let empty = Row::new(last.allocator())?;
+    full.push(last.copy()?)?;
+    *last = empty;
+    Ok(())
+}
