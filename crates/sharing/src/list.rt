@@ -55,13 +55,9 @@ impl<T> SharedList<T> {
     pub fn item(&self, position: usize) -> Option<&Shared<T>>
         ensures { option_copied result ≡ slice_get self.now position }
     {
-        let chunk = position / ROOM;
         let full = self.full.len();
-        if chunk >= full {
-            return self.last.get(position - full * ROOM);
-        }
-        match self.full.get(chunk) {
-            None => None,
+        match self.full.get(position / ROOM) {
+            None => self.last.get(position - full * ROOM),
             Some(chunk) => chunk.get(position % ROOM),
         }
     }
@@ -80,6 +76,19 @@ impl<T: Drop> SharedList<T> {
             full: Row::new(alloc)?,
             last: Row::new(alloc)?,
             len: 0,
+        })
+    }
+
+    /// One item so many times, which all places share.
+    pub fn filled(alloc: Global, item: T, count: usize) -> Result<SharedList<T>, Memory>
+        ensures { IfOk result (λ list. list ≡ replicate count item) }
+    {
+        let item = Shared::new(alloc, item)?;
+        let chunk = Row::filled(alloc, &item, ROOM)?;
+        Ok(SharedList {
+            full: Row::filled(alloc, &chunk, count / ROOM)?,
+            last: Row::filled(alloc, &item, count % ROOM)?,
+            len: count,
         })
     }
 
@@ -132,6 +141,33 @@ impl<T: Drop> SharedList<T> {
             self.last.set(position - full * ROOM, item)?;
         }
         Ok(())
+    }
+
+    /// Keeps the first so many items.
+    pub fn truncate(&mut self, count: usize) -> Result<(), Memory>
+        ensures ok { OnOk result (self.new ≡ take count self.old) }
+        ensures err { OnErr result (self.new ≡ self.old) }
+    {
+        if count >= self.len {
+            return Ok(());
+        }
+        let chunk = count / ROOM;
+        let full = self.full.len();
+        match self.full.get(chunk) {
+            None => {
+                self.last.truncate(count - full * ROOM)?;
+                self.len = count;
+                Ok(())
+            }
+            Some(last) => {
+                let mut last = last.copy()?;
+                last.truncate(count % ROOM)?;
+                self.full.truncate(chunk)?;
+                self.last = last;
+                self.len = count;
+                Ok(())
+            }
+        }
     }
 }
 

@@ -1,6 +1,6 @@
 //! A list whose copies share it whole until one of them changes.
 
-ghost use Rattle.std.specs.Prelude.{◌≡◌, List as Seq, [], ◌∷◌, ◌++◌, ◌<◌, length, take, IfOk, OnOk, OnErr, slice_get, slice_set, slice_index_or, option_copied};
+ghost use Rattle.std.specs.Prelude.{◌≡◌, List as Seq, [], ◌∷◌, ◌++◌, ◌<◌, length, take, replicate, IfOk, OnOk, OnErr, slice_get, slice_set, slice_index_or, option_copied};
 
 use base_types::{Memory, TryCopy};
 use std::alloc::Global;
@@ -44,6 +44,19 @@ impl<X: TryCopy + Drop> Row<X> {
     {
         Ok(Row {
             items: Arc::new(alloc, Vec::new(alloc))?,
+        })
+    }
+
+    /// So many copies of one item.
+    pub fn filled(alloc: Global, item: &X, count: usize) -> Result<Row<X>, Memory>
+        ensures { IfOk result (λ row. row ≡ replicate count item.now) }
+    {
+        let mut items = Vec::with_capacity(alloc, count)?;
+        while items.len() < count {
+            items.push(item.copy()?)?;
+        }
+        Ok(Row {
+            items: Arc::new(alloc, items)?,
         })
     }
 
