@@ -16,7 +16,7 @@ type Chunk<T> = Row<Shared<T>>;
 
 /// A list whose copies share what they have in common, and that contracts see as its items. A change copies at most the
 /// list of the chunks and one chunk, and no item.
-#[derive(Drop)]
+#[derive(Debug, Drop)]
 pub struct SharedList<T> {
     full: Row<Chunk<T>>,
     last: Chunk<T>,
@@ -185,4 +185,10 @@ fn make_room<T: Drop>(full: &mut Row<Chunk<T>>, last: &mut Chunk<T>) -> Result<(
     full.push(last.copy()?)?;
     *last = empty;
     Ok(())
+}
+
+impl<T: Drop> TryCopy for SharedList<T> {
+    fn copy(&self) -> Result<SharedList<T>, Memory> {
+        self.share()
+    }
 }

@@ -8,7 +8,7 @@ use std::marker::Model;
 use std::sync::Arc;
 
 /// A list that its copies share. A change of one of several copies copies the items, which should cost little.
-#[derive(Drop)]
+#[derive(Debug, Drop)]
 pub struct Row<X> {
     items: Arc<Vec<X>>,
 }

@@ -8,7 +8,7 @@ use std::marker::Model;
 use std::sync::Arc;
 
 /// A value that its copies share, and that contracts see as the value itself.
-#[derive(Drop)]
+#[derive(Debug, Drop)]
 pub struct Shared<T> {
     value: Arc<T>,
 }
