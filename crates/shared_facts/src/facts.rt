@@ -112,12 +112,11 @@ impl SharedFacts {
 fn first_in<'a>(bucket: &'a Bucket, kind: Kind, sels: &[Sel]) -> Option<&'a Fact>
     ensures { option_copied result ≡ find (is_of kind sels.now) bucket.now }
 {
-    let mut position = 0;
-    while let Some(fact) = bucket.get(position) {
+    for position in 0..bucket.len() {
+        let fact = bucket.get(position).unwrap();
         if is_of(fact, kind, sels) {
             return Some(fact);
         }
-        position += 1;
     }
     None
 }
