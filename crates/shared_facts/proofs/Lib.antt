@@ -1,3 +1,4 @@
 pub mod Same
 pub mod Tabled
 pub mod Found
+pub mod Readings

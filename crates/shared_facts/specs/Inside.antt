@@ -2,3 +2,4 @@
 pub mod Kinds
 pub mod Keys
 pub mod Tables
+pub mod Reads
