@@ -1,10 +1,10 @@
 -- What the first fact of a kind and path says is what the meaning reads.
-use Rattle.std.proofs.Common.{◌≡◌, ℕ, Bool, true, false, cond, List, [], ◌∷◌, refl, sym}
+use Rattle.std.proofs.Common.{◌≡◌, Bool, true, false, cond, List, [], ◌∷◌, refl, sym}
 use Rattle.std.specs.Prelude.{Option, Some, None, option_and_then, if◌then◌else◌}
 use Rattle.std.specs.List.{find}
 use Rattle.tree_types.specs.declared.path.Sel.{Sel}
 use Rattle.tree_types.specs.declared.fact.Fact.{Fact}
-use Rattle.tree_types.specs.declared.fact.Fact.TheVariants.{Started, Settled, Carried, Granted, Memo, Armed, Due, Resumed, Begun}
+use Rattle.tree_types.specs.declared.fact.Fact.TheVariants.{Settled, Carried, Memo, Armed}
 use Rattle.tree_types.specs.Places.{sels_eq}
 use Rattle.meaning.specs.Answers.{first_or, first_of, settled_in, carried_in, memo_in, armed_in}
 use Rattle.shared_facts.specs.declared.kind.Kind.TheVariants as kind

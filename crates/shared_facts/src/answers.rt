@@ -5,9 +5,8 @@ ghost use Rattle.std.specs.List.{find};
 ghost use Rattle.meaning.specs.Answers.{answers, first_of, settled_in, carried_in};
 ghost use Rattle.shared_facts.specs.Inside.Kinds.{is_of};
 
-use crate::SharedFacts;
 use crate::kind::Kind;
-use crate::read;
+use crate::{SharedFacts, read};
 use meaning::Place;
 use recorded::{Ended, MemoAnswer, Recorded};
 use tree_types::{Outcome, Sels};

@@ -2,7 +2,7 @@
 use Rattle.std.specs.Prelude.{ℕ, Option, Some, None}
 use Rattle.tree_types.specs.declared.outcome.Outcome.{Outcome}
 use Rattle.tree_types.specs.declared.fact.Fact.{Fact}
-use Rattle.tree_types.specs.declared.fact.Fact.TheVariants.{Started, Settled, Carried, Granted, Memo, Armed, Due, Resumed, Begun}
+use Rattle.tree_types.specs.declared.fact.Fact.TheVariants.{Settled, Carried, Memo, Armed}
 use Rattle.meaning.specs.Answers.{MemoAnswer}
 
 abbrev pub settled : Fact → Option Outcome

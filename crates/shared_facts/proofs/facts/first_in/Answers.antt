@@ -1,5 +1,5 @@
 -- The fact at the position is of this kind and path, or the first one stands behind it.
-use Rattle.std.proofs.Common.{◌≡◌, Bool, true, false, sym, ◌∙◌, ap}
+use Rattle.std.proofs.Common.{◌≡◌, sym, ◌∙◌, ap}
 use Rattle.std.specs.Prelude.{Some, slice_get, option_copied}
 use Rattle.shared_facts.specs.Inside.Kinds.{is_of}
 use Rattle.shared_facts.proofs.Found.{found_here, found_later}

@@ -1,6 +1,5 @@
 -- The last chunk is full, and becomes one of the others.
-use Rattle.std.proofs.Common.{◌≡◌, ◌≤◌, ◌++◌, ◌∷◌, [], length, sym, ◌∙◌, ap, ap₂, arith}
-use Rattle.sharing.specs.Inside.Chunks.{items_of, IsChunked}
+use Rattle.std.proofs.Common.{◌≤◌, length, arith}
 use Rattle.sharing.proofs.Places.{filled_up, filled_same}
 use Rattle.sharing.proofs.list.make_room.Goals as goal
 

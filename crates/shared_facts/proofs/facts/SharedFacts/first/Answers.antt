@@ -1,5 +1,5 @@
 -- All facts of the path are in its bucket.
-use Rattle.std.proofs.Common.{◌≡◌, ℕ, List, ◌∙◌, ap}
+use Rattle.std.proofs.Common.{ℕ, List, ◌∙◌, ap}
 use Rattle.std.specs.List.{find}
 use Rattle.tree_types.specs.declared.fact.Fact.{Fact}
 use Rattle.shared_facts.specs.Inside.Kinds.{is_of}

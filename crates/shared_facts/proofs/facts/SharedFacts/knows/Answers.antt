@@ -1,5 +1,5 @@
 -- A fact of a kind and path is there exactly where there is a first one.
-use Rattle.std.proofs.Common.{◌≡◌, List, sym, ◌∙◌, ap, ap₂}
+use Rattle.std.proofs.Common.{List, sym, ◌∙◌, ap, ap₂}
 use Rattle.std.specs.Prelude.{Option, is_some}
 use Rattle.std.specs.List.{find}
 use Rattle.tree_types.specs.declared.path.Sel.{Sel}

@@ -1,6 +1,4 @@
 -- Full chunks of the item, and what is left of the count.
-use Rattle.std.proofs.Common.{◌≡◌, ◌++◌, replicate}
-use Rattle.sharing.specs.Inside.Chunks.{joined, IsKept}
 use Rattle.sharing.proofs.Places.{replicated, replicated_kept}
 use Rattle.sharing.proofs.list.SharedList.filled.Goals as goal
 

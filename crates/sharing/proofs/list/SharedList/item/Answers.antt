@@ -1,5 +1,5 @@
 -- The item of the last chunk, or of a full one.
-use Rattle.std.proofs.Common.{◌≡◌, ◌≤◌, ◌/◌, ◌%◌, ◌<◌, List, [], length, sym, ◌∙◌, ap, arith}
+use Rattle.std.proofs.Common.{◌≤◌, ◌/◌, ◌%◌, ◌<◌, [], length, sym, ◌∙◌, ap, arith}
 use Rattle.std.specs.Prelude.{slice_get}
 use Rattle.std.proofs.lemmas.Option.{slice_get_within, get_or_from_slice_get}
 use Rattle.sharing.proofs.Places.{none_past, full_get, last_get}

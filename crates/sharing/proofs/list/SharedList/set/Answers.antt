@@ -1,5 +1,5 @@
 -- One item of a full chunk, or of the last one, is replaced.
-use Rattle.std.proofs.Common.{◌≡◌, ◌/◌, ◌<◌, length, sym, ◌∙◌, ap, arith}
+use Rattle.std.proofs.Common.{◌<◌, length, ◌∙◌, ap, arith}
 use Rattle.std.specs.Prelude.{slice_set}
 use Rattle.sharing.specs.Inside.Chunks.{items_of}
 use Rattle.sharing.proofs.Places.{full_within, full_set, full_set_kept, last_within, last_set}

@@ -1,5 +1,5 @@
 -- The list ends in the last chunk, or in a full one, a part of which is the last one then.
-use Rattle.std.proofs.Common.{◌≡◌, ◌≤◌, ◌<◌, ◌/◌, [], length, take, sym, ◌∙◌, ap, arith}
+use Rattle.std.proofs.Common.{◌≤◌, ◌<◌, ◌/◌, [], length, take, sym, ◌∙◌, ap, arith}
 use Rattle.std.proofs.lemmas.Option.{slice_get_within, get_or_from_slice_get}
 use Rattle.sharing.proofs.Places.{none_past, full_take, full_take_kept, last_take, last_take_kept}
 use Rattle.sharing.proofs.list.SharedList.truncate.Goals as goal
