@@ -1,6 +1,7 @@
 //! Values whose copies share what they have in common, so that older values stay and a change costs little.
 #![tactic(auto)]
 
+mod chunks;
 mod list;
 mod row;
 mod shared;

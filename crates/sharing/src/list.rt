@@ -3,22 +3,20 @@
 ghost use Rattle.std.specs.Prelude.{◌≡◌, List as Seq, [], ◌∷◌, ◌++◌, ◌<◌, length, take, replicate, IfOk, OnOk, OnErr, slice_get, slice_set, option_copied};
 ghost use Rattle.sharing.specs.Inside.Chunks.{room, items_of, IsChunked};
 
+use crate::chunks::{Chunks, ROOM};
 use crate::{Row, Shared};
 use base_types::{Memory, TryCopy};
 use std::alloc::Global;
 use std::marker::Model;
 
-/// How many items a chunk has.
-const ROOM: usize = 64;
-
 /// Items that other chunks may share.
 type Chunk<T> = Row<Shared<T>>;
 
-/// A list whose copies share what they have in common, and that contracts see as its items. A change copies at most the
-/// list of the chunks and one chunk, and no item.
+/// A list whose copies share what they have in common, and that contracts see as its items. A change copies at most one
+/// chunk of 64 items, one block of 64 chunks and the list of the blocks, and no item.
 #[derive(Debug, Drop)]
 pub struct SharedList<T> {
-    full: Row<Chunk<T>>,
+    full: Chunks<Shared<T>>,
     last: Chunk<T>,
     len: usize,
 }
@@ -55,9 +53,9 @@ impl<T> SharedList<T> {
     pub fn item(&self, position: usize) -> Option<&Shared<T>>
         ensures { option_copied result ≡ slice_get self.now position }
     {
-        let full = self.full.len();
+        let before = self.len - self.last.len();
         match self.full.get(position / ROOM) {
-            None => self.last.get(position - full * ROOM),
+            None => self.last.get(position - before),
             Some(chunk) => chunk.get(position % ROOM),
         }
     }
@@ -73,7 +71,7 @@ impl<T: Drop> SharedList<T> {
         ensures { IfOk result (λ list. list ≡ []) }
     {
         Ok(SharedList {
-            full: Row::new(alloc)?,
+            full: Chunks::new(alloc)?,
             last: Row::new(alloc)?,
             len: 0,
         })
@@ -86,7 +84,7 @@ impl<T: Drop> SharedList<T> {
         let item = Shared::new(alloc, item)?;
         let chunk = Row::filled(alloc, &item, ROOM)?;
         Ok(SharedList {
-            full: Row::filled(alloc, &chunk, count / ROOM)?,
+            full: Chunks::filled(alloc, &chunk, count / ROOM)?,
             last: Row::filled(alloc, &item, count % ROOM)?,
             len: count,
         })
@@ -133,12 +131,12 @@ impl<T: Drop> SharedList<T> {
         ensures err { OnErr result (self.new ≡ self.old) }
     {
         let item = Shared::new(self.allocator(), item)?;
-        let chunk = position / ROOM;
-        let full = self.full.len();
-        if chunk < full {
-            self.full.set_in(chunk, position % ROOM, item)?;
+        let before = self.len - self.last.len();
+        if position < before {
+            self.full
+                .set_in(position / ROOM, position % ROOM, item)?;
         } else {
-            self.last.set(position - full * ROOM, item)?;
+            self.last.set(position - before, item)?;
         }
         Ok(())
     }
@@ -151,18 +149,17 @@ impl<T: Drop> SharedList<T> {
         if count >= self.len {
             return Ok(());
         }
-        let chunk = count / ROOM;
-        let full = self.full.len();
-        match self.full.get(chunk) {
+        let before = self.len - self.last.len();
+        match self.full.get(count / ROOM) {
             None => {
-                self.last.truncate(count - full * ROOM)?;
+                self.last.truncate(count - before)?;
                 self.len = count;
                 Ok(())
             }
             Some(last) => {
                 let mut last = last.copy()?;
                 last.truncate(count % ROOM)?;
-                self.full.truncate(chunk)?;
+                self.full.truncate(count / ROOM)?;
                 self.last = last;
                 self.len = count;
                 Ok(())
@@ -172,7 +169,7 @@ impl<T: Drop> SharedList<T> {
 }
 
 // Makes room in the last chunk: where it is full, it goes to the others, and an empty one comes in its place.
-fn make_room<T: Drop>(full: &mut Row<Chunk<T>>, last: &mut Chunk<T>) -> Result<(), Memory>
+fn make_room<T: Drop>(full: &mut Chunks<Shared<T>>, last: &mut Chunk<T>) -> Result<(), Memory>
     requires { IsChunked full.old last.old }
     ensures chunked { IsChunked full.new last.new }
     ensures same { items_of full.new last.new ≡ items_of full.old last.old }

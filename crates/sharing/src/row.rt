@@ -134,6 +134,31 @@ impl<X: TryCopy + Drop> Row<Row<X>> {
     }
 }
 
+impl<X: TryCopy + Drop> Row<Row<Row<X>>> {
+    /// Replaces an item of a row of a row.
+    pub(crate) fn set_within(
+        &mut self,
+        rows: usize,
+        row: usize,
+        position: usize,
+        item: X,
+    ) -> Result<(), Memory>
+        requires rows { rows < length self.old }
+        requires row { row < length (slice_index_or self.old rows []) }
+        requires position { position < length (slice_index_or (slice_index_or self.old rows []) row []) }
+        ensures ok { OnOk result (self.new ≡ slice_set self.old rows
+            (slice_set (slice_index_or self.old rows []) row
+                (slice_set (slice_index_or (slice_index_or self.old rows []) row []) position item))) }
+        ensures err { OnErr result (self.new ≡ self.old) }
+    {
+        self.keep_apart()?;
+        match Arc::get_mut(&mut self.items) {
+            None => Err(Memory),
+            Some(all) => all[rows].set_in(row, position, item),
+        }
+    }
+}
+
 fn copies<X: TryCopy + Drop>(items: &Vec<X>) -> Result<Vec<X>, Memory>
     ensures { IfOk result (λ copies. copies.items ≡ items.now.items) }
 {
