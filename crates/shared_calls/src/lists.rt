@@ -5,6 +5,9 @@ use sharing::{Row, Shared, SharedList};
 use std::alloc::Global;
 use std::test::Fail;
 
+/// What stands at a position that was changed.
+const CHANGED: u32 = 77_777;
+
 /// The numbers below a count, in order.
 fn numbers(alloc: Global, count: u32) -> Result<SharedList<u32>, Memory> {
     let mut list = SharedList::new(alloc)?;
@@ -14,63 +17,59 @@ fn numbers(alloc: Global, count: u32) -> Result<SharedList<u32>, Memory> {
     Ok(list)
 }
 
-#[test]
-fn keeps_a_copy_while_the_other_changes(rt: HostRuntime) -> Result<(), Fail> {
-    for count in [
-        0u32, 1, 63, 64, 65, 127, 128, 129, 4_095, 4_096, 4_097, 10_000,
-    ] {
-        let mut list = numbers(rt.alloc(), count)?;
-        let kept = list.share()?;
-        let again = kept.copy()?;
-        list.push(count)?;
-        let middle = count as usize / 2;
-        if middle < list.len() {
-            list.set(middle, 77_777)?;
+/// Whether a list has the numbers below a count and no more, but for the position that was changed.
+fn is_numbered(list: &SharedList<u32>, count: u32, changed: u32) -> bool {
+    for number in 0..count {
+        let wanted = if number == changed { CHANGED } else { number };
+        if list.get(number as usize).copied() != Some(wanted) {
+            return false;
         }
-        assert_eq!(rt; kept.len(), count as usize);
-        assert_eq!(rt; again.len(), count as usize);
-        assert_eq!(rt; list.len(), count as usize + 1);
-        for number in 0..count {
-            let position = number as usize;
-            let changed = if position == middle { 77_777 } else { number };
-            assert_eq!(rt; kept.get(position), Some(&number), "{count}");
-            assert_eq!(rt; again.get(position), Some(&number), "{count}");
-            assert_eq!(rt; list.get(position), Some(&changed), "{count}");
-        }
-        let last = if count == 0 { 77_777 } else { count };
-        assert_eq!(rt; kept.get(count as usize), None, "{count}");
-        assert_eq!(rt; list.get(count as usize), Some(&last), "{count}");
-        assert_eq!(rt; list.get(count as usize + 1), None, "{count}");
+    }
+    list.len() == count as usize && list.get(count as usize).is_none()
+}
+
+/// Changes a position that the list has.
+fn change(list: &mut SharedList<u32>, position: u32) -> Result<(), Memory> {
+    let position = position as usize;
+    if position < list.len() {
+        list.set(position, CHANGED)?;
     }
     Ok(())
 }
 
+/// Whether a list of so many numbers stays as it is while copies of it grow, are changed and are cut.
+fn stays(alloc: Global, count: u32, changed: u32, front: u32) -> Result<bool, Memory> {
+    let kept = numbers(alloc, count)?;
+    let mut grown = kept.share()?;
+    grown.push(count)?;
+    change(&mut grown, changed)?;
+    let mut cut = kept.copy()?;
+    cut.truncate(front as usize)?;
+    let mut again = cut.share()?;
+    again.push(front)?;
+    Ok(
+        is_numbered(&kept, count, u32::MAX)
+            && is_numbered(&grown, count + 1, changed)
+            && is_numbered(&cut, front, u32::MAX)
+            && is_numbered(&again, front + 1, u32::MAX),
+    )
+}
+
 #[test]
-fn keeps_a_front(rt: HostRuntime) -> Result<(), Fail> {
-    for (count, room, len, last) in [
-        (0u32, 0usize, 0usize, None),
-        (0, 5, 0, None),
-        (64, 64, 64, Some(63u32)),
-        (64, 63, 63, Some(62)),
-        (65, 64, 64, Some(63)),
-        (130, 0, 0, None),
-        (130, 1, 1, Some(0)),
-        (130, 128, 128, Some(127)),
-        (130, 129, 129, Some(128)),
-        (130, 4_000, 130, Some(129)),
-        (4_200, 4_097, 4_097, Some(4_096)),
+fn keeps_a_list_while_copies_change(rt: HostRuntime) -> Result<(), Fail> {
+    for (count, changed, front) in [
+        (0u32, 0u32, 0u32),
+        (1, 0, 0),
+        (63, 62, 62),
+        (64, 0, 64),
+        (65, 64, 64),
+        (128, 127, 65),
+        (4_096, 4_095, 4_096),
+        (4_097, 4_096, 4_096),
+        (8_200, 4_100, 4_097),
+        (8_200, 8_191, 8_192),
     ] {
-        let whole = numbers(rt.alloc(), count)?;
-        let mut front = whole.share()?;
-        front.truncate(room)?;
-        assert_eq!(rt; whole.len(), count as usize);
-        assert_eq!(rt; front.len(), len, "{count} {room}");
-        assert_eq!(rt; front.get(len), None, "{count} {room}");
-        if len > 0 {
-            assert_eq!(rt; front.get(len - 1).copied(), last, "{count} {room}");
-        }
-        front.push(5)?;
-        assert_eq!(rt; front.get(len), Some(&5), "{count} {room}");
+        assert!(rt; stays(rt.alloc(), count, changed, front)?, "{count}");
     }
     Ok(())
 }
@@ -78,16 +77,14 @@ fn keeps_a_front(rt: HostRuntime) -> Result<(), Fail> {
 #[test]
 fn fills_a_list(rt: HostRuntime) -> Result<(), Fail> {
     for count in [0usize, 1, 64, 65, 4_096, 4_097] {
-        let mut list = SharedList::filled(rt.alloc(), 3u32, count)?;
-        assert_eq!(rt; list.len(), count);
-        if 0 < list.len() {
-            list.set(0, 4)?;
+        let list = SharedList::filled(rt.alloc(), 3u32, count)?;
+        let mut threes = 0u64;
+        for position in 0..5_000 {
+            if list.get(position).copied() == Some(3) {
+                threes = threes.saturating_add(1);
+            }
         }
-        for position in 0..count {
-            let item = if position == 0 { 4 } else { 3 };
-            assert_eq!(rt; list.get(position), Some(&item), "{count}");
-        }
-        assert_eq!(rt; list.get(count), None, "{count}");
+        assert_eq!(rt; (list.len() as u64, threes), (count as u64, count as u64));
     }
     Ok(())
 }
@@ -96,53 +93,58 @@ fn fills_a_list(rt: HostRuntime) -> Result<(), Fail> {
 fn shares_an_item(rt: HostRuntime) -> Result<(), Fail> {
     let list = numbers(rt.alloc(), 70)?;
     let mut other = SharedList::new(list.allocator())?;
-    for position in [69, 3] {
-        if let Some(item) = list.item(position) {
-            other.push_shared(item.copy()?)?;
+    if let Some(item) = list.item(69) {
+        other.push_shared(item.copy()?)?;
+    }
+    other.push_shared(Shared::new(rt.alloc(), 5)?)?;
+    assert_eq!(rt;
+        (other.get(0).copied(), other.get(1).copied()),
+        (Some(69), Some(5))
+    );
+    let shared = Shared::new(rt.alloc(), 5u32)?;
+    assert_eq!(rt; (*shared.value(), *shared.copy()?.value()), (5, 5));
+    Ok(())
+}
+
+/// The three first items of a row, and 0 where there is none.
+fn items(row: &Row<Shared<u32>>) -> [u32; 3] {
+    let mut items = [0; 3];
+    for (position, item) in items.iter_mut().enumerate() {
+        if let Some(found) = row.get(position) {
+            *item = *found.value();
         }
     }
-    assert_eq!(rt; other.get(0), Some(&69));
-    assert_eq!(rt; other.get(1), Some(&3));
-    assert_eq!(rt; other.len(), 2);
-    let shown = format!(in rt.alloc(); "{:?}", Shared::new(rt.alloc(), 5u32)?.value())?;
-    assert_eq!(rt; shown.as_str(), "5");
+    items
+}
+
+#[test]
+fn keeps_a_row_while_copies_change(rt: HostRuntime) -> Result<(), Fail> {
+    let alloc = rt.alloc();
+    let one = Shared::new(alloc, 1u32)?;
+    let kept = Row::filled(alloc, &one, 2)?;
+    let mut row = kept.copy()?;
+    row.push(Shared::new(row.allocator(), 2)?)?;
+    if 0 < row.len() {
+        row.set(0, Shared::new(alloc, 3)?)?;
+    }
+    assert_eq!(rt; (items(&kept), items(&row)), ([1, 1, 0], [3, 1, 2]));
+    row.truncate(1)?;
+    assert_eq!(rt; (kept.len(), row.len(), items(&row)), (2, 1, [3, 0, 0]));
     Ok(())
 }
 
 #[test]
-fn changes_a_row(rt: HostRuntime) -> Result<(), Fail> {
+fn changes_a_row_of_rows(rt: HostRuntime) -> Result<(), Fail> {
     let alloc = rt.alloc();
-    let mut row = Row::filled(alloc, &1u32, 2)?;
-    let kept = row.copy()?;
-    row.push(2)?;
-    if 0 < row.len() {
-        row.set(0, 3)?;
-    }
-    assert_eq!(rt;
-        (row.get(0), row.get(1), row.get(2)),
-        (Some(&3), Some(&1), Some(&2))
-    );
-    assert_eq!(rt;
-        (kept.get(0), kept.get(1), kept.get(2)),
-        (Some(&1), Some(&1), None)
-    );
-    row.truncate(1)?;
-    assert_eq!(rt; (row.len(), kept.len()), (1, 2));
-    let mut rows = Row::new(row.allocator())?;
-    rows.push(row)?;
-    rows.push(kept)?;
-    let before = rows.copy()?;
-    if let Some(second) = rows.get(1)
-        && 1 < second.len()
+    let mut rows = Row::new(alloc)?;
+    rows.push(Row::filled(alloc, &Shared::new(alloc, 1u32)?, 2)?)?;
+    let kept = rows.copy()?;
+    if let Some(first) = rows.get(0)
+        && 1 < first.len()
     {
-        rows.set_in(1, 1, 9)?;
+        rows.set_in(0, 1, Shared::new(alloc, 9)?)?;
     }
-    let (changed, was) = (rows.get(1), before.get(1));
-    if let (Some(changed), Some(was)) = (changed, was) {
-        assert_eq!(rt; (changed.get(0), changed.get(1)), (Some(&1), Some(&9)));
-        assert_eq!(rt; (was.get(0), was.get(1)), (Some(&1), Some(&1)));
-    }
-    assert!(rt; changed.is_some());
-    assert!(rt; was.is_some());
+    assert_eq!(rt; rows.get(0).map(|row| items(row)), Some([1, 9, 0]));
+    assert_eq!(rt; kept.get(0).map(|row| items(row)), Some([1, 1, 0]));
     Ok(())
 }
