@@ -36,27 +36,33 @@ fn end(alloc: Global, finish: u64) -> Outcome {
     }
 }
 
-/// A fact of each kind, of the pod's path, and a second one where it says more than its path.
-fn told(alloc: Global) -> Result<SharedFacts, Memory> {
-    let mut facts = SharedFacts::new(alloc)?;
-    facts.add(Fact::Started)?;
+/// Adds how pods ended, two of one path settled.
+fn add_ends(facts: &mut SharedFacts, alloc: Global) -> Result<(), Memory> {
     facts.add(Fact::Carried(path(alloc, &POD)?, end(alloc, 3)))?;
     facts.add(Fact::Settled(path(alloc, &POD)?, end(alloc, 4)))?;
     facts.add(Fact::Settled(path(alloc, &POD)?, end(alloc, 5)))?;
-    facts.add(Fact::Carried(path(alloc, &NEXT)?, end(alloc, 6)))?;
-    facts.add(Fact::Granted(path(alloc, &[])?))?;
-    facts.add(Fact::Memo(path(alloc, &POD)?, None))?;
+    facts.add(Fact::Carried(path(alloc, &NEXT)?, end(alloc, 6)))
+}
+
+/// Adds what a cache and a clock said, twice.
+fn add_sayings(facts: &mut SharedFacts, alloc: Global) -> Result<(), Memory> {
     let outputs = Outputs {
         result: None,
         params: List::new(alloc),
     };
+    facts.add(Fact::Memo(path(alloc, &POD)?, None))?;
     facts.add(Fact::Memo(path(alloc, &POD)?, Some(outputs)))?;
     facts.add(Fact::Armed(path(alloc, &POD)?, 7))?;
-    facts.add(Fact::Armed(path(alloc, &POD)?, 8))?;
+    facts.add(Fact::Armed(path(alloc, &POD)?, 8))
+}
+
+/// Adds a fact of each kind that says no more than its path.
+fn add_marks(facts: &mut SharedFacts, alloc: Global) -> Result<(), Memory> {
+    facts.add(Fact::Started)?;
+    facts.add(Fact::Granted(path(alloc, &[])?))?;
     facts.add(Fact::Due(path(alloc, &POD)?))?;
     facts.add(Fact::Resumed(path(alloc, &NEXT)?))?;
-    facts.add(Fact::Begun(path(alloc, &GROUP)?))?;
-    Ok(facts)
+    facts.add(Fact::Begun(path(alloc, &GROUP)?))
 }
 
 /// What is answered of a path: how it ended, what a cache and a clock said, and a letter for each thing that is true of it.
@@ -92,7 +98,10 @@ fn answers(alloc: Global, facts: &SharedFacts, sels: &[Sel]) -> Result<String, F
 
 #[test]
 fn answers_by_the_first_fact_of_a_kind(rt: HostRuntime) -> Result<(), Fail> {
-    let facts = told(rt.alloc())?;
+    let mut facts = SharedFacts::new(rt.alloc())?;
+    add_ends(&mut facts, rt.alloc())?;
+    add_sayings(&mut facts, rt.alloc())?;
+    add_marks(&mut facts, rt.alloc())?;
     assert_eq!(rt; (facts.len(), facts.started()), (13, true));
     let pod: &[Sel] = &POD;
     let next: &[Sel] = &NEXT;

@@ -48,7 +48,7 @@ impl SharedFacts {
         })
     }
 
-    /// The same facts, at the cost of four owners more.
+    /// The same facts, at a cost that does not grow with them.
     pub fn share(&self) -> Result<SharedFacts, Memory>
         ensures { IfOk result (λ facts. facts ≡ self.now) }
     {

@@ -90,7 +90,7 @@ impl<T: Drop> SharedList<T> {
         })
     }
 
-    /// The same list, at the cost of two owners more.
+    /// The same list, at a cost that does not grow with it.
     pub fn share(&self) -> Result<SharedList<T>, Memory>
         ensures { IfOk result (λ list. list ≡ self.now) }
     {
@@ -133,8 +133,7 @@ impl<T: Drop> SharedList<T> {
         let item = Shared::new(self.allocator(), item)?;
         let before = self.len - self.last.len();
         if position < before {
-            self.full
-                .set_in(position / ROOM, position % ROOM, item)?;
+            self.full.set_in(position / ROOM, position % ROOM, item)?;
         } else {
             self.last.set(position - before, item)?;
         }

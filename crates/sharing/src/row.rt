@@ -148,7 +148,7 @@ impl<X: TryCopy + Drop> Row<Row<Row<X>>> {
         requires position { position < length (slice_index_or (slice_index_or self.old rows []) row []) }
         ensures ok { OnOk result (self.new ≡ slice_set self.old rows
             (slice_set (slice_index_or self.old rows []) row
-                (slice_set (slice_index_or (slice_index_or self.old rows []) row []) position item))) }
+            (slice_set (slice_index_or (slice_index_or self.old rows []) row []) position item))) }
         ensures err { OnErr result (self.new ≡ self.old) }
     {
         self.keep_apart()?;
@@ -162,7 +162,8 @@ impl<X: TryCopy + Drop> Row<Row<Row<X>>> {
 fn copies<X: TryCopy + Drop>(items: &Vec<X>) -> Result<Vec<X>, Memory>
     ensures { IfOk result (λ copies. copies.items ≡ items.now.items) }
 {
-    let mut copies = Vec::with_capacity(*items.allocator(), items.len())?;
+    // A push mostly follows.
+    let mut copies = Vec::with_capacity(*items.allocator(), items.len().saturating_add(1))?;
     for item in items {
         copies.push(item.copy()?)?;
     }
