@@ -1,7 +1,6 @@
 -- One item of a full chunk, or of the last one, is replaced.
-use Rattle.std.proofs.Common.{◌≡◌, ◌-◌, ◌*◌, ◌/◌, ◌≤◌, ◌<◌, length, sym, ◌∙◌, ap, arith}
+use Rattle.std.proofs.Common.{◌≡◌, ◌-◌, ◌*◌, ◌/◌, ◌≤◌, ◌<◌, length, ◌∙◌, ap, arith}
 use Rattle.std.specs.Prelude.{slice_set}
-use Rattle.sharing.specs.Inside.Chunks.{items_of}
 use Rattle.sharing.proofs.Places.{before_last, full_within, full_set, full_set_kept, last_set}
 use Rattle.sharing.proofs.list.SharedList.set.Goals as goal
 
