@@ -49,9 +49,9 @@ fn stays(alloc: Global, count: u32, changed: u32, front: u32) -> Result<bool, Me
     again.push(front)?;
     Ok(
         is_numbered(&kept, count, u32::MAX)
-            && is_numbered(&grown, count + 1, changed)
+            && is_numbered(&grown, count.saturating_add(1), changed)
             && is_numbered(&cut, front, u32::MAX)
-            && is_numbered(&again, front + 1, u32::MAX),
+            && is_numbered(&again, front.saturating_add(1), u32::MAX),
     )
 }
 
