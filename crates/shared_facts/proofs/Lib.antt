@@ -1,0 +1,4 @@
+pub mod Same
+pub mod Tabled
+pub mod Found
+pub mod Readings
