@@ -1,0 +1,2 @@
+-- What speaks only of private functions.
+pub mod Parts
