@@ -3,8 +3,10 @@
 
 mod entries;
 mod facts;
+mod fits;
 mod history;
 mod list;
 mod parts;
 
+pub use fits::entries_fit;
 pub use history::print_history;
