@@ -1,1 +1,6 @@
 mod NoFloat
+mod Feeds
+mod Plain
+mod AllOf
+mod Outcomes
+mod PartsIn

@@ -1,2 +1,3 @@
 -- What speaks only of private functions.
 pub mod Parts
+pub mod Reading

@@ -3,10 +3,16 @@
 
 mod entries;
 mod facts;
+mod fault;
 mod fits;
 mod history;
+mod left;
 mod list;
 mod parts;
+mod read_entries;
+mod read_facts;
+mod read_parts;
+mod read_path;
 
 pub use fits::entries_fit;
 pub use history::print_history;
