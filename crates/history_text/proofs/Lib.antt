@@ -1,6 +1,12 @@
 mod NoFloat
 mod Feeds
 mod Plain
+mod PlainEntries
 mod AllOf
 mod Outcomes
 mod PartsIn
+mod PathBack
+mod ReadBack
+mod Keyed
+mod LineBack
+mod LinesBack

@@ -20,7 +20,8 @@ use Rattle.serde_json.specs.View.{items_of}
 use Rattle.serde_json.specs.Written.{outline, items_outline, comma_if, compact_text, items_text}
 use Rattle.serde_json.proofs.Numbers.{number_of-decimal, number_of-negative}
 use Rattle.serde_json.proofs.Texts.{print-outline}
-use Rattle.history_text.proofs.Feeds.{is_one_line, IsLine-append, IsLine-decimal, IsLine-quoted}
+use Rattle.history_text.specs.Inside.Bytes.{is_one_line}
+use Rattle.history_text.proofs.Feeds.{IsLine-append, IsLine-decimal, IsLine-quoted}
 
 abbrev pub PlainNumber : Num → Type 0
 PlainNumber (unsigned n) = n < 2 ^ 64

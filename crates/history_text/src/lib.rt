@@ -7,12 +7,17 @@ mod fault;
 mod fits;
 mod history;
 mod left;
+mod lines;
 mod list;
 mod parts;
 mod read_entries;
 mod read_facts;
 mod read_parts;
 mod read_path;
+mod reading;
+mod refused;
 
 pub use fits::entries_fit;
 pub use history::print_history;
+pub use reading::read_history;
+pub use refused::HistoryRefused;
