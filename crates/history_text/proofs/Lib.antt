@@ -10,3 +10,4 @@ mod ReadBack
 mod Keyed
 mod LineBack
 mod LinesBack
+mod Readable

@@ -210,8 +210,8 @@ pub(crate) fn entry_fits(entry: &Entry)
     }
 }
 
-/// A law: the texts of each entry are in UTF-8, and its numbers have the bits of their types. It does nothing.
-pub fn entries_fit(entries: &Entries)
+/// The texts of each entry are in UTF-8, and its numbers have the bits of their types.
+pub(crate) fn entries_fit(entries: &Entries)
     ensures { AllByRecursion readable.FitsEntry entries.now }
 {
     let entries = entries.as_slice();

@@ -1,9 +1,13 @@
-//! The text of a history.
+//! A history, printed.
 
 ghost use Rattle.std.specs.Prelude.{◌≡◌, ◌++◌, IfOk, OnOk};
+ghost use Rattle.std.specs.List.{AllByRecursion};
+ghost use Rattle.history_text.specs.Histories.{IsTextOf};
 ghost use Rattle.history_text.specs.Lines.{entry_line, entry_text, history_text};
+ghost use Rattle.history_text.specs.Readable.{RanksByKey};
 
 use crate::entries::entry_value;
+use crate::fits::entries_fit;
 use base_types::{Bytes, Memory};
 use std::alloc::Global;
 use tree_types::{Entries, Entry};
@@ -23,8 +27,7 @@ fn push_entry(text: &mut Bytes, entry: &Entry) -> Result<(), Memory>
     text.push(b'\n')
 }
 
-/// A line for each entry, a list of JSON without spaces. Each line ends with a line feed.
-pub fn print_history(alloc: Global, entries: &Entries) -> Result<Bytes, Memory>
+fn print_lines(alloc: Global, entries: &Entries) -> Result<Bytes, Memory>
     ensures { IfOk result (λ text. text ≡ history_text entries.now) }
 {
     let mut text = Bytes::new(alloc);
@@ -33,4 +36,16 @@ pub fn print_history(alloc: Global, entries: &Entries) -> Result<Bytes, Memory>
         push_entry(&mut text, entry)?;
     }
     Ok(text)
+}
+
+/// A line for each entry, a list of JSON without spaces. Each line ends with a line feed.
+pub fn print_history(alloc: Global, entries: &Entries) -> Result<Bytes, Memory>
+    ensures text { IfOk result (λ text. text ≡ history_text entries.now) }
+
+    // Of a rank the text has only what its key does not say.
+    ensures reads_back { IfOk result
+        (λ text. AllByRecursion RanksByKey entries.now → IsTextOf entries.now text) }
+{
+    entries_fit(entries);
+    print_lines(alloc, entries)
 }

@@ -17,7 +17,6 @@ mod read_path;
 mod reading;
 mod refused;
 
-pub use fits::entries_fit;
 pub use history::print_history;
 pub use reading::read_history;
 pub use refused::HistoryRefused;
