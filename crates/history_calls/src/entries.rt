@@ -95,9 +95,11 @@ fn is_line(alloc: Global, entry: Entry, line: &str) -> Result<bool, Fail> {
     let printed = print_history(alloc, &entries)?;
     let read = read_history(alloc, line.as_bytes())?;
     let again = print_history(alloc, &read)?;
-    Ok(printed.as_slice() == line.as_bytes()
-        && read.len() == 1
-        && again.as_slice() == line.as_bytes())
+    Ok(
+        printed.as_slice() == line.as_bytes()
+            && read.len() == 1
+            && again.as_slice() == line.as_bytes(),
+    )
 }
 
 fn is_fact(alloc: Global, fact: Fact, part: &str) -> Result<bool, Fail> {
@@ -121,8 +123,14 @@ fn tells_facts(rt: HostRuntime) -> Result<(), Fail> {
     let part = r#"["settled","main",["Error","r",[["q",""],["p","v"]],true,3,4]]"#;
     assert!(rt; is_fact(alloc, fact, part)?);
     for (phase, part) in [
-        (Phase::Succeeded, r#"["carried","main",["Succeeded",null,[],false,0,0]]"#),
-        (Phase::Failed, r#"["carried","main",["Failed",null,[],false,0,0]]"#),
+        (
+            Phase::Succeeded,
+            r#"["carried","main",["Succeeded",null,[],false,0,0]]"#,
+        ),
+        (
+            Phase::Failed,
+            r#"["carried","main",["Failed",null,[],false,0,0]]"#,
+        ),
     ] {
         if let Some(outcome) = bare_outcome(alloc, phase)? {
             let fact = Fact::Carried(main_path(alloc)?, outcome);

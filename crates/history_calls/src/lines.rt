@@ -88,12 +88,28 @@ fn refuses_parts(rt: HostRuntime) -> Result<(), Fail> {
 #[test]
 fn refuses_places(rt: HostRuntime) -> Result<(), Fail> {
     for place in [
-        "/", "main/", "/main", "main//g0", "Main", "mains", "g", "g01", "g+1", "g-1", "g4294967296",
-        "main/g1x", "x1", "1",
+        "/",
+        "main/",
+        "/main",
+        "main//g0",
+        "Main",
+        "mains",
+        "g",
+        "g01",
+        "g+1",
+        "g-1",
+        "g4294967296",
+        "main/g1x",
+        "x1",
+        "1",
     ] {
         let line = format!(in rt.alloc(); "[\"create\",\"w\",\"w\",\"{place}\",0]\n")?;
         let read = read_history(rt.alloc(), line.as_bytes());
-        assert_eq!(rt; read.err(), Some(HistoryRefused::Bad { line: 1 }), "{place}");
+        assert_eq!(rt;
+            read.err(),
+            Some(HistoryRefused::Bad { line: 1 }),
+            "{place}"
+        );
     }
     Ok(())
 }

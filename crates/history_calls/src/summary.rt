@@ -16,7 +16,8 @@ fn prints_counts(rt: HostRuntime) -> Result<(), Fail> {
         pods: 77,
     };
     let text = print_summary(rt.alloc(), &counts)?;
-    let expected = "workflows 10\nPending 1\nRunning 2\nSucceeded 3\nFailed 4\nError 0\nnodes 18446744073709551615\npods 77\n";
+    let expected =
+        "workflows 10\nPending 1\nRunning 2\nSucceeded 3\nFailed 4\nError 0\nnodes 18446744073709551615\npods 77\n";
     assert_eq!(rt; text.as_slice(), expected.as_bytes());
     Ok(())
 }

@@ -1,5 +1,5 @@
 -- One item after the other, where each gives something, or one gives nothing.
-use Rattle.std.proofs.Common.{◌≡◌, ℕ, ◌+◌, ◌<◌, List, [], ◌∷◌, ◌++◌, length, get_or, take, drop, map, Option, Some, None, Result, Ok, Err, refl, sym, ap, ◌∙◌, arith}
+use Rattle.std.proofs.Common.{◌≡◌, ℕ, ◌+◌, ◌<◌, List, [], ◌∷◌, ◌++◌, length, get_or, take, drop, map, Option, Some, None, Err, refl, sym, ap, ◌∙◌}
 use Rattle.std.proofs.lemmas.List.{take_more, drop_more, take-append-drop}
 use Rattle.history_text.specs.Inside.Reading.{◌>>=◌, all_of, Gives}
 use Rattle.history_text.specs.declared.fault.Fault.{Fault}

@@ -1,7 +1,6 @@
 -- The lines of bytes, and the entries that they are.
-use Rattle.std.proofs.Common.{◌≡◌, ℕ, ◌+◌, ◌<◌, List, [], ◌∷◌, ◌++◌, length, take, drop, Some, None, Result, Ok, Err, true, refl, sym, ap, ap₂, ◌∙◌, subst, arith, append_assoc, length-append}
+use Rattle.std.proofs.Common.{◌≡◌, ℕ, ◌+◌, List, [], ◌∷◌, ◌++◌, length, take, drop, Some, Err, true, refl, sym, ap, ap₂, ◌∙◌, arith, append_assoc, length-append}
 use Rattle.std.proofs.lemmas.List.{take-append-drop}
-use Rattle.std.specs.Borrow.{Bor}
 use Rattle.tree_types.specs.declared.entry.Entry.{Entry}
 use Rattle.history_text.specs.Lines.{entry_text, entry_line, history_text}
 use Rattle.history_text.specs.Readable.{IsReadable, AreReadable}

@@ -1,10 +1,9 @@
 -- An outcome by its phase.
-use Rattle.std.proofs.Common.{◌≡◌, ℕ, Some, None, true, false, IsTrue, refl, sym, ap, ◌∙◌}
+use Rattle.std.proofs.Common.{◌≡◌, Some, true, IsTrue, refl, ap}
 use mathlib.Core.Bool.{Bool-set}
 use Rattle.tree_types.specs.Phases.{is_end}
 use Rattle.tree_types.specs.declared.phase.Phase.{Phase}
 use Rattle.tree_types.specs.declared.phase.Phase.TheVariants.{Pending, Running, Succeeded, Skipped, Failed, Error, Omitted}
-use Rattle.tree_types.specs.declared.outcome.Outcome.{Outcome}
 use Rattle.history_text.specs.declared.left.Left.{Left}
 use Rattle.history_text.specs.Inside.Reading.{outcome_by}
 

@@ -1,7 +1,6 @@
 -- The data of an entry are given back by their text.
-use Rattle.std.proofs.Common.{◌≡◌, ℕ, suc, ℤ, pos, negsuc, ◌^◌, ◌<◌, true, List, [], ◌∷◌, ◌++◌, map, codes, decimal, Option, Some, None, IsUtf8, IfSome, refl, arith}
-use Rattle.std.specs.Prelude.{flat_map, FitsSigned}
-use Rattle.std.specs.Int.{w32, w64}
+use Rattle.std.proofs.Common.{ℕ, suc, ℤ, pos, negsuc, ◌^◌, ◌<◌, List, [], ◌∷◌, ◌++◌, map, codes, decimal, Option, Some, None, IsUtf8, IfSome, refl, arith}
+use Rattle.std.specs.Prelude.{flat_map}
 use Rattle.std.specs.List.{AllByRecursion}
 use lib.Signed.{mag}
 use Rattle.std.proofs.lemmas.Str.{IsUtf8-append, IsUtf8-nil, IsUtf8-from_ascii}
@@ -23,7 +22,7 @@ use Rattle.tree_types.specs.declared.fact.Fact.TheVariants.{Started, Settled, Ca
 use Rattle.tree_types.specs.declared.entry.Entry.{Entry}
 use Rattle.tree_types.specs.declared.entry.Entry.TheVariants.{Submit, Write, Create, Finish, File, Release, Save, Tick}
 use Rattle.tree_types.specs.declared.entry.Rank.{Rank}
-use Rattle.history_text.specs.Lines.{sel_text, path_text, text_or_null, param_data, params_data, outcome_data, outputs_data, rank_data, fact_data, facts_data, entry_data}
+use Rattle.history_text.specs.Lines.{sel_text, path_text, text_or_null, param_data, outcome_data, outputs_data, rank_data, fact_data, entry_data}
 use Rattle.history_text.specs.Readable.{FitsSel, FitsParam, FitsOutcome, FitsOutputs, FitsFact, FitsRank, FitsEntry}
 use Rattle.history_text.proofs.Plain.{Plain, ArePlain}
 

@@ -1,9 +1,8 @@
 -- An entry is read back from its data.
-use Rattle.std.proofs.Common.{◌≡◌, ◌↔◌, ℕ, ℤ, pos, negsuc, ◌^◌, ◌<◌, Bool, true, false, List, [], ◌∷◌, map, codes, Option, Some, None, IsTrue, IfSome, refl, sym, ap, ap₂, ◌∙◌, arith, lt-ltb}
+use Rattle.std.proofs.Common.{◌≡◌, ◌↔◌, ℕ, ℤ, pos, negsuc, ◌^◌, ◌<◌, Bool, true, false, List, [], ◌∷◌, map, Option, Some, None, IsTrue, refl, sym, ap, ap₂, ◌∙◌, arith, lt-ltb}
 use Rattle.std.specs.List.{AllByRecursion}
-use Rattle.std.specs.Prelude.{IsUtf8}
 use lib.Signed.{mag}
-use Rattle.serde_json.specs.Data.{Data, number}
+use Rattle.serde_json.specs.Data.{Data}
 use Rattle.serde_json.specs.Find.{as_i64, of_integer}
 use Rattle.serde_json.specs.View.{items_of}
 use Rattle.tree_types.specs.Phases.{is_end, phase_text}
@@ -19,10 +18,9 @@ use Rattle.tree_types.specs.declared.entry.Entry.{Entry}
 use Rattle.tree_types.specs.declared.entry.Entry.TheVariants.{Submit, Write, Create, Finish, File, Release, Save, Tick}
 use Rattle.tree_types.specs.declared.entry.HolderKey.{HolderKey}
 use Rattle.tree_types.specs.declared.entry.Rank.{Rank}
-use Rattle.tree_types.specs.declared.path.LockId.{LockId}
-use Rattle.history_text.specs.Lines.{text_or_null, param_data, params_data, outcome_data, outputs_data, rank_data, fact_data, facts_data, entry_data}
-use Rattle.history_text.specs.Readable.{FitsParam, FitsOutcome, FitsOutputs, FitsFact, FitsRank, FitsEntry, RanksByKey, IsReadable}
-use Rattle.history_text.specs.Inside.Reading.{◌>>=◌, all_of, text_or_null_of, parts_in, param_of, outputs_of, end_of, outcome_by, left_of, outcome_of, fact_of, in_32_bits, is_empty, rank_of, entry_of}
+use Rattle.history_text.specs.Lines.{text_or_null, param_data, outcome_data, outputs_data, rank_data, fact_data, entry_data}
+use Rattle.history_text.specs.Readable.{FitsParam, FitsOutcome, FitsOutputs, FitsFact, FitsRank, IsReadable}
+use Rattle.history_text.specs.Inside.Reading.{◌>>=◌, all_of, text_or_null_of, parts_in, param_of, outputs_of, end_of, outcome_by, left_of, outcome_of, fact_of, is_empty, rank_of, entry_of}
 use Rattle.history_text.proofs.Outcomes.{made}
 use Rattle.history_text.proofs.PartsIn.{parts_in-items_of}
 use Rattle.history_text.proofs.PathBack.{all_back, path_back}
