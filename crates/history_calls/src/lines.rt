@@ -14,6 +14,54 @@ const WHOLE: &str = r#"["submit","w",null,[]]
 ["release","mutex/m","w","main"]
 "#;
 
+/// Lists that are no entry's.
+const PARTS: &[&str] = &[
+    r#"[]"#,
+    r#"["tock",1]"#,
+    r#"["TICK",1]"#,
+    r#"["tick"]"#,
+    r#"["tick",1,2]"#,
+    r#"["tick",-1]"#,
+    r#"["tick",1.0]"#,
+    r#"["tick","1"]"#,
+    r#"["tick",18446744073709551616]"#,
+    r#"["submit","w",[]]"#,
+    r#"["submit","w",null,null]"#,
+    r#"["submit","w",0,[]]"#,
+    r#"["submit","\u0041",null,[]]"#,
+    r#"["submit","\u001F",null,[]]"#,
+    r#"["submit","w",null,[["started","main"]]]"#,
+    r#"["write","w",2,[["stopped","main"]]]"#,
+    r#"["write","w",2,[["memo","main","hit"]]]"#,
+    r#"["write","w",2,[["memo","main","kept"]]]"#,
+    r#"["write","w",2,[["memo","main","miss",[null,[]]]]]"#,
+    r#"["finish","w","w",["Running",null,[],false,0,0]]"#,
+    r#"["finish","w","w",["Succeeded",null,[["p"]],false,0,0]]"#,
+    r#"["finish","w","w",["Succeeded",null,[],0,0,0]]"#,
+    r#"["file","mutex/m","w","main",[2147483648,0,"w"]]"#,
+    r#"["file","mutex/m","w","main",[0,9223372036854775808,"w"]]"#,
+    r#"["file","mutex/m","w","main",[0,0]]"#,
+    r#"["save","c","k","w","main",[null],5]"#,
+];
+
+/// Texts that are no path's.
+const PLACES: &[&str] = &[
+    "/",
+    "main/",
+    "/main",
+    "main//g0",
+    "Main",
+    "mains",
+    "g",
+    "g01",
+    "g+1",
+    "g-1",
+    "g4294967296",
+    "main/g1x",
+    "x1",
+    "1",
+];
+
 #[test]
 fn reads_whole_histories(rt: HostRuntime) -> Result<(), Fail> {
     let alloc = rt.alloc();
@@ -50,34 +98,7 @@ fn refuses_lines(rt: HostRuntime) -> Result<(), Fail> {
 
 #[test]
 fn refuses_parts(rt: HostRuntime) -> Result<(), Fail> {
-    for part in [
-        r#"[]"#,
-        r#"["tock",1]"#,
-        r#"["TICK",1]"#,
-        r#"["tick"]"#,
-        r#"["tick",1,2]"#,
-        r#"["tick",-1]"#,
-        r#"["tick",1.0]"#,
-        r#"["tick","1"]"#,
-        r#"["tick",18446744073709551616]"#,
-        r#"["submit","w",[]]"#,
-        r#"["submit","w",null,null]"#,
-        r#"["submit","w",0,[]]"#,
-        r#"["submit","\u0041",null,[]]"#,
-        r#"["submit","\u001F",null,[]]"#,
-        r#"["submit","w",null,[["started","main"]]]"#,
-        r#"["write","w",2,[["stopped","main"]]]"#,
-        r#"["write","w",2,[["memo","main","hit"]]]"#,
-        r#"["write","w",2,[["memo","main","kept"]]]"#,
-        r#"["write","w",2,[["memo","main","miss",[null,[]]]]]"#,
-        r#"["finish","w","w",["Running",null,[],false,0,0]]"#,
-        r#"["finish","w","w",["Succeeded",null,[["p"]],false,0,0]]"#,
-        r#"["finish","w","w",["Succeeded",null,[],0,0,0]]"#,
-        r#"["file","mutex/m","w","main",[2147483648,0,"w"]]"#,
-        r#"["file","mutex/m","w","main",[0,9223372036854775808,"w"]]"#,
-        r#"["file","mutex/m","w","main",[0,0]]"#,
-        r#"["save","c","k","w","main",[null],5]"#,
-    ] {
+    for part in PARTS {
         let line = format!(in rt.alloc(); "{part}\n")?;
         let read = read_history(rt.alloc(), line.as_bytes());
         assert_eq!(rt; read.err(), Some(HistoryRefused::Bad { line: 1 }), "{part}");
@@ -87,22 +108,7 @@ fn refuses_parts(rt: HostRuntime) -> Result<(), Fail> {
 
 #[test]
 fn refuses_places(rt: HostRuntime) -> Result<(), Fail> {
-    for place in [
-        "/",
-        "main/",
-        "/main",
-        "main//g0",
-        "Main",
-        "mains",
-        "g",
-        "g01",
-        "g+1",
-        "g-1",
-        "g4294967296",
-        "main/g1x",
-        "x1",
-        "1",
-    ] {
+    for place in PLACES {
         let line = format!(in rt.alloc(); "[\"create\",\"w\",\"w\",\"{place}\",0]\n")?;
         let read = read_history(rt.alloc(), line.as_bytes());
         assert_eq!(rt;
