@@ -1,1 +1,2 @@
+pub mod Summary
 pub use Rattle.tree_types.specs.Texts

@@ -1,0 +1,13 @@
+mod NoFloat
+mod Feeds
+mod Plain
+mod PlainEntries
+mod AllOf
+mod Outcomes
+mod PartsIn
+mod PathBack
+mod ReadBack
+mod Keyed
+mod LineBack
+mod LinesBack
+mod Readable

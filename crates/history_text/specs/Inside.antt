@@ -1,0 +1,4 @@
+-- What speaks only of private functions.
+pub mod Bytes
+pub mod Parts
+pub mod Reading

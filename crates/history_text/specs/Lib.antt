@@ -1,0 +1,4 @@
+pub mod Histories
+pub mod Inside
+pub mod Lines
+pub mod Readable
