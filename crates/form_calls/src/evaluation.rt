@@ -9,11 +9,13 @@ use state_calls::{notes, plain_notes};
 use std::alloc::Global;
 use std::test::Fail;
 use tree_eval::{JournalIndex, evaluate, tree, wants};
+use tree_incr::TreeState;
 use tree_print::print_tree;
 use tree_types::{
     Fact, Journal, Kind, Node, Nodes, Note, Outcome, Outputs, Params, Path, Phase, Sel, Sels, Tree,
 };
 use wf_bundle::{Document, read_bundle};
+use wf_check::Valid as Checked;
 use wf_manifest::Manifest;
 
 /// An end of a pod; any phase but Failed and Error is taken as Succeeded.
@@ -85,12 +87,38 @@ fn printed(alloc: Global, manifest: &Manifest, journal: &Journal) -> Result<Byte
     Ok(print_tree(alloc, &manifest.name, evaluated.phase, &evaluated.tree)?)
 }
 
-/// The same of the one workflow of a document.
+/// The same, where the facts are added one by one.
+fn printed_kept(alloc: Global, valid: &Checked, journal: &Journal) -> Result<Bytes, Fail>
+    requires valid { Valid valid.now }
+{
+    let mut state = TreeState::new(valid.copy()?)?;
+    for fact in journal.facts().as_slice() {
+        state = state.add(fact.copy()?)?;
+    }
+    let told = state.tell()?;
+    if told.tree.nodes.len() != state.count() {
+        return Err(Fail::new("another count"));
+    }
+    Ok(print_tree(alloc, &state.manifest().name, told.phase, &told.tree)?)
+}
+
+fn same_text(made: Bytes, kept: &Bytes) -> Result<Bytes, Fail> {
+    if made.as_slice() == kept.as_slice() {
+        Ok(made)
+    } else {
+        Err(Fail::new("another tree where facts are added"))
+    }
+}
+
+/// The text of the tree of the one workflow of a document, which is the same in both ways.
 fn printed_first(alloc: Global, document: &Document, journal: &Journal) -> Result<Bytes, Fail>
     requires valid { All Valid document.now.workflows }
 {
     match document.workflows.as_slice() {
-        [valid] => printed(alloc, valid.manifest(), journal),
+        [valid] => {
+            let kept = printed_kept(alloc, valid, journal)?;
+            same_text(printed(alloc, valid.manifest(), journal)?, &kept)
+        }
         _ => Err(Fail::new("another number of workflows")),
     }
 }

@@ -7,7 +7,7 @@ use Rattle.tree_types.specs.declared.node.Node.{Node}
 use Rattle.tree_state.specs.declared.refused.TreeRefused.{TreeRefused}
 use Rattle.tree_state.specs.declared.refused.TreeRefused.TheVariants.{TooLarge}
 use Rattle.tree_eval.specs.declared.whole.Evaluated.{Evaluated}
-use Rattle.tree_eval.specs.Told.{within}
+use Rattle.tree_eval.specs.Within.{within}
 
 abbrev by_test : Evaluated → Bool → Result Evaluated TreeRefused
 by_test whole b = if b then Ok whole else Err TooLarge
