@@ -3,3 +3,4 @@ mod Kids
 mod Firsts
 mod Sums
 pub mod Tellings
+mod Found
