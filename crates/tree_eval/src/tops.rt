@@ -161,6 +161,57 @@ impl Tops {
         }
     }
 
+    /// The first want of a kind, in tree order, that passes a test.
+    pub fn find_want<T: WantTest>(&self, kind: WantKind, test: &T) -> Option<&Want>
+        ensures { option_copied result
+            ≡ find (passes kind (T.accepts test.now)) (wants_in (inside.lines_of self.now)) }
+    {
+        if let Some(want) = self.main.find_want(kind, test) {
+            return Some(want);
+        }
+        match &self.exit {
+            None => None,
+            Some(exit) => exit.find_want(kind, test),
+        }
+    }
+
+    /// The first node, in tree order, that passes a test.
+    pub fn find_node<T: NodeTest>(&self, test: &T) -> Option<&Node>
+        ensures { option_copied result
+            ≡ find (T.accepts test.now) (nodes_in (inside.lines_of self.now)) }
+    {
+        if let Some(node) = self.main.find_node(test) {
+            return Some(node);
+        }
+        match &self.exit {
+            None => None,
+            Some(exit) => exit.find_node(test),
+        }
+    }
+
+    /// A node that a clue leads to. Where none is found, there may be one all the same.
+    pub fn on_way(&self, clue: &Clue<'_>) -> Option<&Node>
+        ensures { IfSome result (λ node. IsFound clue.now (inside.lines_of self.now) node.now) }
+    {
+        if let Some(node) = self.main.on_way(clue) {
+            return Some(node);
+        }
+        match &self.exit {
+            None => None,
+            Some(exit) => exit.on_way(clue),
+        }
+    }
+
+    /// The least tick above a clock at which a timer is due that is asked for.
+    pub fn next_timer(&self, clock: u64) -> Option<u64>
+        ensures { result ≡ next_tick clock (wants_in (inside.lines_of self.now)) }
+    {
+        match &self.exit {
+            None => self.main.next_timer(clock),
+            Some(exit) => sooner(self.main.next_timer(clock), exit.next_timer(clock)),
+        }
+    }
+
     /// The lines of both, kind by kind.
     pub fn tell(&self, alloc: Global) -> Result<Told, Memory>
         ensures { IfOk result (λ told. told ≡ told_with no_lines (inside.lines_of self.now)) }

@@ -128,6 +128,36 @@ impl WorkflowTree {
         self.tops.first_beginning()
     }
 
+    /// The first want of a kind, in tree order, that passes a test. What asks for none of the kind is not walked over.
+    pub fn find_want<T: WantTest>(&self, kind: WantKind, test: &T) -> Option<&Want>
+        ensures { option_copied result
+            ≡ find (passes kind (T.accepts test.now)) (wants_in (lines_of self.now)) }
+    {
+        self.tops.find_want(kind, test)
+    }
+
+    /// The first node, in tree order, that passes a test.
+    pub fn find_node<T: NodeTest>(&self, test: &T) -> Option<&Node>
+        ensures { option_copied result ≡ find (T.accepts test.now) (nodes_in (lines_of self.now)) }
+    {
+        self.tops.find_node(test)
+    }
+
+    /// A node that a clue leads to, by the way that paths and names show. What is found fits the clue; where none is found,
+    /// there may be one all the same.
+    pub fn on_way(&self, clue: &Clue<'_>) -> Option<&Node>
+        ensures { IfSome result (λ node. IsFound clue.now (lines_of self.now) node.now) }
+    {
+        self.tops.on_way(clue)
+    }
+
+    /// The least tick above a clock at which a timer is due that is asked for.
+    pub fn next_timer(&self, clock: u64) -> Option<u64>
+        ensures { result ≡ next_tick clock (wants_in (lines_of self.now)) }
+    {
+        self.tops.next_timer(clock)
+    }
+
     /// The tree, what it asks for, and the tasks that may begin, each as a list in tree order.
     pub fn tell(&self, alloc: Global) -> Result<Evaluated, Memory>
         ensures { IfOk result (λ whole. whole ≡ evaluated self.now) }

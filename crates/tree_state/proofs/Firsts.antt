@@ -9,7 +9,7 @@ use Rattle.tree_types.specs.declared.want.Want.{Want}
 use Rattle.meaning.specs.declared.lines.Line.{Line}
 use Rattle.meaning.specs.declared.lines.Line.TheVariants.{Asks}
 use Rattle.meaning.specs.Lines.{Made, lines_below, lines_in}
-use Rattle.meaning.specs.Trees.{want_in, beginning_in, wants_in, beginnings_in}
+use Rattle.meaning.specs.Trees.{wants_in, beginnings_in}
 use Rattle.tree_state.specs.declared.kinds.WantKind.{WantKind}
 use Rattle.tree_state.specs.declared.kinds.WantKind.TheVariants.{Pod, Lock, LookUp, Arming, Timer, Save}
 use Rattle.tree_state.specs.declared.kinds.Asks.{Asks as Kinds}
@@ -18,7 +18,8 @@ use Rattle.tree_state.specs.Asking.{is_of, ask_for, first}
 use Rattle.tree_state.specs.Inside.Kids.{kid_parts, parts_of}
 use Rattle.tree_state.specs.Inside.Sums.{asks_in, asks_of}
 use Rattle.tree_state.proofs.Kids.{from_here}
-use Rattle.tree_state.proofs.Tellings.{filter_append, kid_lines}
+use Rattle.tree_state.proofs.Tellings.{kid_lines}
+use Rattle.tree_state.proofs.Readings.{want_among, beginning_among}
 
 -- what is read of lines, and of lines behind them
 module _ {Y : Type 0} (join : Y → Y → Y) (look : List Line → Y) (looks : (a b : List Line) → look (a ++ b) ≡ join (look a) (look b)) where
@@ -65,21 +66,15 @@ asked_first [] ls = refl
 asked_first (w ∷ ws) ls = ap (λ vs. w ∷ vs) (asked_first ws ls)
 
 module _ (p : Want → Bool) where
-  abbrev pub want_among : List Line → Option Want
-  want_among ls = find p (wants_in ls)
-
-  pub wants_then : (a b : List Line) → want_among (a ++ b) ≡ option_or (want_among a) (want_among b)
-  wants_then a b = ap (λ ws. find p ws) (filter_append want_in a b) ∙ find-append p (wants_in a) (wants_in b)
-
   -- first among those of the node, then below it
-  over : (m : Made) → want_among (lines_in m) ≡ option_or (find p m.own.wants) (want_among (lines_below m.parts))
+  over : (m : Made) → want_among p (lines_in m) ≡ option_or (find p m.own.wants) (want_among p (lines_below m.parts))
   over m = ap (λ ws. find p ws) (asked_first m.own.wants (lines_below m.parts)) ∙ find-append p m.own.wants (wants_in (lines_below m.parts))
 
-  pub own_has : (m : Made) (w : Want) → Some w ≡ find p m.own.wants → Some w ≡ want_among (lines_in m)
-  own_has m w has = ap (λ o. option_or o (want_among (lines_below m.parts))) has ∙ sym (over m)
+  pub own_has : (m : Made) (w : Want) → Some w ≡ find p m.own.wants → Some w ≡ want_among p (lines_in m)
+  own_has m w has = ap (λ o. option_or o (want_among p (lines_below m.parts))) has ∙ sym (over m)
 
-  pub own_lacks : (m : Made) → None ≡ find p m.own.wants → want_among (lines_below m.parts) ≡ want_among (lines_in m)
-  own_lacks m lacks = ap (λ o. option_or o (want_among (lines_below m.parts))) lacks ∙ sym (over m)
+  pub own_lacks : (m : Made) → None ≡ find p m.own.wants → want_among p (lines_below m.parts) ≡ want_among p (lines_in m)
+  own_lacks m lacks = ap (λ o. option_or o (want_among p (lines_below m.parts))) lacks ∙ sym (over m)
 
 module _ (k : WantKind) where
   kept : (ls : List Line) (j : WantKind) → asks_of j (asks_in ls) ≡ ask_for j ls
@@ -98,16 +93,6 @@ module _ (k : WantKind) where
   kind_lacks ls a b all is off = sym (none_found (is_of k) (wants_in ls) (asks_none ls a b all is off))
 
 -- ---- tasks that may begin
-
-abbrev pub beginning_among : List Line → Option Path
-beginning_among ls = first (beginnings_in ls)
-
-first_append : {X : Type 0} (xs ys : List X) → first (xs ++ ys) ≡ option_or (first xs) (first ys)
-first_append [] ys = refl
-first_append (x ∷ xs) ys = refl
-
-pub beginnings_then : (a b : List Line) → beginning_among (a ++ b) ≡ option_or (beginning_among a) (beginning_among b)
-beginnings_then a b = ap (λ ps. first ps) (filter_append beginning_in a b) ∙ first_append (beginnings_in a) (beginnings_in b)
 
 -- what a node asks for begins nothing
 none_asked : (ws : List Want) (ls : List Line) → beginnings_in (map Asks ws ++ ls) ≡ beginnings_in ls

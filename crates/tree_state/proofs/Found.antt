@@ -1,11 +1,8 @@
 -- What is found among lines: wants that pass a test, nodes, and the next timer.
-use Rattle.std.proofs.Common.{◌≡◌, ℕ, zero, suc, ◌+◌, ◌<◌, ◌≤◌, length, get_or, drop, List, [], ◌∷◌, ◌++◌, Bool, true, false, cond, Option, Some, None, refl, sym, ap, ap₂, ◌∙◌, subst, arith}
-use Rattle.std.specs.Prelude.{map, ◌||◌, ◌&&◌, min, filter_map}
+use Rattle.std.proofs.Common.{◌≡◌, ℕ, zero, suc, ◌+◌, ◌<◌, length, get_or, drop, List, [], ◌∷◌, Bool, true, false, cond, Option, Some, None, refl, sym, ap, ap₂, ◌∙◌, subst, arith}
+use Rattle.std.specs.Prelude.{◌||◌, ◌&&◌, filter_map}
 use Rattle.std.specs.List.{find, list_any, Contains, cons_option}
 use Rattle.std.specs.Cmp.Lexicographic.{pointwise}
-use Rattle.std.specs.Option.{option_or}
-use Rattle.std.proofs.lemmas.List.{append-nil, drop_all}
-use Rattle.std.proofs.lemmas.List.Folds.{find-append}
 use Rattle.std.proofs.lemmas.List.Elements.{Contains-append_left, Contains-append_right}
 use Rattle.std.specs.declared.sync.Arc.{Arc}
 use Rattle.std.specs.declared.alloc.Global.{Global}
@@ -17,20 +14,20 @@ use Rattle.tree_types.specs.Places.{sel_eq, sels_eq}
 use Rattle.tree_types.specs.declared.want.Want.{Want}
 use Rattle.tree_types.specs.declared.want.Want.TheVariants as want
 use Rattle.meaning.specs.declared.lines.Line.{Line}
-use Rattle.meaning.specs.Lines.{Parts, nothing, Made, lines_over, lines_below, lines_in}
-use Rattle.meaning.proofs.Flattening.{lines_then}
-use Rattle.meaning.specs.Trees.{node_in, want_in, nodes_in, wants_in}
+use Rattle.meaning.specs.Lines.{Parts, Made, lines_below, lines_in}
+use Rattle.meaning.specs.Trees.{node_in, nodes_in, wants_in}
 use Rattle.tree_state.specs.declared.kinds.WantKind.{WantKind}
 use Rattle.tree_state.specs.declared.kinds.WantKind.TheVariants.{Timer}
 use Rattle.tree_state.specs.declared.state.Line.{Line as Line'}
 use Rattle.tree_state.specs.declared.state.Line.TheVariants.{MayBegin, Asks}
 use Rattle.tree_state.specs.declared.state.Kid.{Kid}
 use Rattle.tree_state.specs.Asking.{is_of, ask_for}
-use Rattle.tree_state.specs.Finding.{passes, due_above, sooner, least, next_tick, IsWithin}
+use Rattle.tree_state.specs.Finding.{passes, due_above, sooner, least, next_tick}
 use Rattle.tree_state.specs.Inside.Kids.{line_then, state_then, kid_parts, parts_of}
 use Rattle.tree_state.proofs.Counts.{no_nodes}
 use Rattle.tree_state.proofs.Firsts.{asked_first, kids_read}
-use Rattle.tree_state.proofs.Kids.{from_here, kid_then}
+use Rattle.tree_state.proofs.Kids.{from_here}
+use Rattle.tree_state.proofs.Readings.{node_among, sooner_moves, sooner_alone, next_more, timer_among, timers_then}
 use Rattle.tree_state.proofs.Tellings.{filter_append}
 
 -- ---- the test by which code compares paths is that of the definitions
@@ -73,25 +70,19 @@ module _ (k : WantKind) (f : Want → Bool) where
 -- ---- nodes
 
 module _ (p : Node → Bool) where
-  abbrev pub node_among : List Line → Option Node
-  node_among ls = find p (nodes_in ls)
-
-  pub nodes_then : (a b : List Line) → node_among (a ++ b) ≡ option_or (node_among a) (node_among b)
-  nodes_then a b = ap (λ ns. find p ns) (filter_append node_in a b) ∙ find-append p (nodes_in a) (nodes_in b)
-
-  node_first : (m : Made) → node_among (lines_in m) ≡ cond (p m.own.node) (Some m.own.node) (node_among (lines_below m.parts))
+  node_first : (m : Made) → node_among p (lines_in m) ≡ cond (p m.own.node) (Some m.own.node) (node_among p (lines_below m.parts))
   node_first m = ap (λ ns. find p (m.own.node ∷ ns)) (no_nodes m.own.wants (lines_below m.parts))
 
   -- its own node passes
-  pub own_passes : (m : Made) (b : Bool) → b ≡ p m.own.node → b ≡ true → Some m.own.node ≡ node_among (lines_in m)
-  own_passes m b is on = sym (node_first m ∙ ap (λ (x : Bool). cond x (Some m.own.node) (node_among (lines_below m.parts))) (sym is ∙ on))
+  pub own_passes : (m : Made) (b : Bool) → b ≡ p m.own.node → b ≡ true → Some m.own.node ≡ node_among p (lines_in m)
+  own_passes m b is on = sym (node_first m ∙ ap (λ (x : Bool). cond x (Some m.own.node) (node_among p (lines_below m.parts))) (sym is ∙ on))
 
   -- it does not
-  pub own_fails : (m : Made) (b : Bool) → b ≡ p m.own.node → b ≡ false → node_among (lines_below m.parts) ≡ node_among (lines_in m)
-  own_fails m b is off = sym (node_first m ∙ ap (λ (x : Bool). cond x (Some m.own.node) (node_among (lines_below m.parts))) (sym is ∙ off))
+  pub own_fails : (m : Made) (b : Bool) → b ≡ p m.own.node → b ≡ false → node_among p (lines_below m.parts) ≡ node_among p (lines_in m)
+  own_fails m b is off = sym (node_first m ∙ ap (λ (x : Bool). cond x (Some m.own.node) (node_among p (lines_below m.parts))) (sym is ∙ off))
 
 -- a line of its own has no node
-pub line_without : (l : Option (Arc Line' Global)) (more : Parts) → nodes_in (lines_below (line_then l more)) ≡ nodes_in (lines_below more)
+line_without : (l : Option (Arc Line' Global)) (more : Parts) → nodes_in (lines_below (line_then l more)) ≡ nodes_in (lines_below more)
 line_without None more = refl
 line_without (Some l) more = by l.value
   where
@@ -99,43 +90,9 @@ line_without (Some l) more = by l.value
     by (MayBegin p) = refl
     by (Asks w) = refl
 
--- what a call made, and nothing behind it
-pub call_alone : (s : Arc Made Global) → lines_below (state_then (Some s) nothing) ≡ lines_in s.value
-call_alone s = append-nil (lines_in s.value)
-
-pub kid_nodes : (l : Option (Arc Line' Global)) (s : Arc Made Global) → nodes_in (lines_below (line_then l (state_then (Some s) nothing))) ≡ nodes_in (lines_in s.value)
-kid_nodes l s = line_without l (state_then (Some s) nothing) ∙ ap nodes_in (call_alone s)
-
 -- ---- timers
 
-min_moves : (a b c : ℕ) → min (min a b) c ≡ min a (min b c)
-min_moves a b c = omega arith
-
-pub sooner_moves : (a b c : Option ℕ) → sooner (sooner a b) c ≡ sooner a (sooner b c)
-sooner_moves None b c = refl
-sooner_moves (Some a) None c = refl
-sooner_moves (Some a) (Some b) None = refl
-sooner_moves (Some a) (Some b) (Some c) = ap (λ (n : ℕ). Some n) (min_moves a b c)
-
-pub sooner_alone : (a : Option ℕ) → sooner a None ≡ a
-sooner_alone None = refl
-sooner_alone (Some a) = refl
-
-least_then : (xs ys : List ℕ) → least (xs ++ ys) ≡ sooner (least xs) (least ys)
-least_then [] ys = refl
-least_then (x ∷ xs) ys = ap (λ (o : Option ℕ). sooner (Some x) o) (least_then xs ys) ∙ sym (sooner_moves (Some x) (least xs) (least ys))
-
 module _ (clock : ℕ) where
-  pub next_more : (a b : List Want) → next_tick clock (a ++ b) ≡ sooner (next_tick clock a) (next_tick clock b)
-  next_more a b = ap least (filter_append (due_above clock) a b) ∙ least_then (filter_map (due_above clock) a) (filter_map (due_above clock) b)
-
-  pub next_one : (w : Want) → next_tick clock (w ∷ []) ≡ due_above clock w
-  next_one w = by (due_above clock w)
-    where
-      by : (o : Option ℕ) → least (cons_option o []) ≡ o
-      by None = refl
-      by (Some t) = refl
-
   next_cons : (w : Want) (ws : List Want) → next_tick clock (w ∷ ws) ≡ sooner (due_above clock w) (next_tick clock ws)
   next_cons w ws = by (due_above clock w)
     where
@@ -153,44 +110,18 @@ module _ (clock : ℕ) where
       ∙ ap (sooner next) (sym (next_cons w (drop (i + 1) ws)) ∙ ap (next_tick clock) (sym (from_here ws i w lt is)))
       ∙ was
 
-  -- no want is left
-  pub tick_done : (ws : List Want) (i : ℕ) (next : Option ℕ) → length ws ≤ i → sooner next (next_tick clock (drop i ws)) ≡ next_tick clock ws → next ≡ next_tick clock ws
-  tick_done ws i next end was = sym (sooner_alone next) ∙ ap (λ (vs : List Want). sooner next (next_tick clock vs)) (sym (drop_all i ws end)) ∙ was
-
-  abbrev pub timer_among : List Line → Option ℕ
-  timer_among ls = next_tick clock (wants_in ls)
-
-  pub timers_then : (a b : List Line) → timer_among (a ++ b) ≡ sooner (timer_among a) (timer_among b)
-  timers_then a b = ap (next_tick clock) (filter_append want_in a b) ∙ next_more (wants_in a) (wants_in b)
-
-  pub timers_over : (m : Made) → timer_among (lines_in m) ≡ sooner (next_tick clock m.own.wants) (timer_among (lines_below m.parts))
-  timers_over m = ap (next_tick clock) (asked_first m.own.wants (lines_below m.parts)) ∙ next_more m.own.wants (wants_in (lines_below m.parts))
+  timers_over : (m : Made) → timer_among clock (lines_in m) ≡ sooner (next_tick clock m.own.wants) (timer_among clock (lines_below m.parts))
+  timers_over m = ap (next_tick clock) (asked_first m.own.wants (lines_below m.parts)) ∙ next_more clock m.own.wants (wants_in (lines_below m.parts))
 
   -- one kid more
-  pub timer_kept : (kids : List Kid) (i : ℕ) (k : Kid) (next now own all : Option ℕ) → i < length kids → k ≡ get_or kids i k → own ≡ timer_among (lines_below (kid_parts k)) → now ≡ sooner next own →
-      sooner next (timer_among (lines_below (parts_of (drop i kids)))) ≡ all → sooner now (timer_among (lines_below (parts_of (drop (i + 1) kids)))) ≡ all
+  pub timer_kept : (kids : List Kid) (i : ℕ) (k : Kid) (next now own all : Option ℕ) → i < length kids → k ≡ get_or kids i k → own ≡ timer_among clock (lines_below (kid_parts k)) → now ≡ sooner next own →
+      sooner next (timer_among clock (lines_below (parts_of (drop i kids)))) ≡ all → sooner now (timer_among clock (lines_below (parts_of (drop (i + 1) kids)))) ≡ all
   timer_kept kids i k next now own all lt is due given was =
-      let rest = timer_among (lines_below (parts_of (drop (i + 1) kids))) in
+      let rest = timer_among clock (lines_below (parts_of (drop (i + 1) kids))) in
       ap (λ (o : Option ℕ). sooner o rest) (given ∙ ap (sooner next) due)
-      ∙ sooner_moves next (timer_among (lines_below (kid_parts k))) rest
-      ∙ ap (sooner next) (sym (kids_read sooner timer_among timers_then kids i k lt is))
+      ∙ sooner_moves next (timer_among clock (lines_below (kid_parts k))) rest
+      ∙ ap (sooner next) (sym (kids_read sooner (timer_among clock) (timers_then clock) kids i k lt is))
       ∙ was
-
-  -- no kid is left
-  pub timer_done : (kids : List Kid) (i : ℕ) (next all : Option ℕ) → length kids ≤ i → sooner next (timer_among (lines_below (parts_of (drop i kids)))) ≡ all → next ≡ all
-  timer_done kids i next all end was = sym (sooner_alone next) ∙ ap (λ (ks : List Kid). sooner next (timer_among (lines_below (parts_of ks)))) (sym (drop_all i kids end)) ∙ was
-
-  -- a kid's own line, then its call
-  pub kid_timer : (l : Option (Arc Line' Global)) (s : Option (Arc Made Global)) (own call : Option ℕ) → own ≡ timer_among (lines_below (line_then l nothing)) → call ≡ timer_among (lines_below (state_then s nothing)) → sooner own call ≡ timer_among (lines_below (line_then l (state_then s nothing)))
-  kid_timer l s own call mine its =
-      ap₂ sooner mine its
-      ∙ sym (timers_then (lines_below (line_then l nothing)) (lines_below (state_then s nothing)))
-      ∙ ap timer_among (sym (lines_then (line_then l nothing) (state_then s nothing)))
-      ∙ ap (λ (p : Parts). timer_among (lines_below p)) (kid_then l None nothing (state_then s nothing))
-
-  -- the kid has no call
-  pub line_timer : (l : Option (Arc Line' Global)) (own : Option ℕ) → own ≡ timer_among (lines_below (line_then l nothing)) → (s : Option (Arc Made Global)) → s ≡ None → own ≡ timer_among (lines_below (line_then l (state_then s nothing)))
-  line_timer l own mine s none = mine ∙ ap (λ (o : Option (Arc Made Global)). timer_among (lines_below (line_then l (state_then o nothing)))) (sym none)
 
   timer_lacks : (w : Want) → is_of Timer w ≡ false → due_above clock w ≡ None
   timer_lacks (want.Pod p) off = refl
@@ -211,8 +142,16 @@ module _ (clock : ℕ) where
       ap (λ (o : Option ℕ). least (cons_option o (filter_map (due_above clock) ws))) (timer_lacks w both.0) ∙ no_timer ws both.1
 
   -- no timer stands there
-  pub lacks_timers : (ls : List Line) → ask_for Timer ls ≡ false → timer_among ls ≡ None
+  pub lacks_timers : (ls : List Line) → ask_for Timer ls ≡ false → timer_among clock ls ≡ None
   lacks_timers ls off = no_timer (wants_in ls) off
+
+  -- those of the node, and of what stands below it
+  pub own_timers : (m : Made) (own : Option ℕ) → own ≡ next_tick clock m.own.wants → sooner own (timer_among clock (lines_below m.parts)) ≡ timer_among clock (lines_in m)
+  own_timers m own is = ap (λ (o : Option ℕ). sooner o (timer_among clock (lines_below m.parts))) is ∙ sym (timers_over m)
+
+  -- those of the node alone
+  pub own_alone : (m : Made) (own : Option ℕ) → own ≡ next_tick clock m.own.wants → timer_among clock (lines_below m.parts) ≡ None → own ≡ timer_among clock (lines_in m)
+  own_alone m own is lacks = sym (sooner_alone own) ∙ ap (sooner own) (sym lacks) ∙ own_timers m own is
 
 -- ---- the nodes of one kid
 
@@ -232,9 +171,9 @@ here_in l s more n has =
     subst (λ (ns : List Node). Contains ns n) (sym (line_without l (state_then (Some s) more) ∙ filter_append node_in (lines_in s.value) (lines_below more)))
     (Contains-append_left (nodes_in (lines_in s.value)) (nodes_in (lines_below more)) n has)
 
-pub kid_in : (kids : List Kid) (i : ℕ) (k : Kid) (s : Arc Made Global) (n : Node) → i < length kids → get_or kids i k ≡ k → k.state ≡ Some s → Contains (nodes_in (lines_in s.value)) n → Contains (nodes_in (lines_below (parts_of kids))) n
+pub kid_in : (kids : List Kid) (i : ℕ) (k : Kid) (s : Arc Made Global) (n : Node) → i < length kids → k ≡ get_or kids i k → k.state ≡ Some s → Contains (nodes_in (lines_in s.value)) n → Contains (nodes_in (lines_below (parts_of kids))) n
 kid_in [] i k s n lt is holds has = absurd (omega arith)
 kid_in (x ∷ kids) zero k s n lt is holds has =
-    subst (λ (o : Option (Arc Made Global)). Contains (nodes_in (lines_below (line_then x.line (state_then o (parts_of kids))))) n) (sym (ap (λ (y : Kid). y.state) is ∙ holds)) (here_in x.line s (parts_of kids) n has)
+    subst (λ (o : Option (Arc Made Global)). Contains (nodes_in (lines_below (line_then x.line (state_then o (parts_of kids))))) n) (sym (ap (λ (y : Kid). y.state) (sym is) ∙ holds)) (here_in x.line s (parts_of kids) n has)
 kid_in (x ∷ kids) (suc i) k s n lt is holds has =
     rest_in x.line x.state (parts_of kids) n (kid_in kids i k s n (omega arith) is holds has)

@@ -4,3 +4,4 @@ mod Firsts
 mod Sums
 pub mod Tellings
 mod Found
+pub mod Readings

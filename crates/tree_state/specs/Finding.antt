@@ -1,10 +1,11 @@
 -- What is found in what a call makes.
-use Rattle.std.specs.Prelude.{ℕ, Bool, ◌&&◌, List, [], ◌∷◌, Option, Some, None, min, nat_lt, bytes_eq, if◌then◌else◌, filter_map}
+use Rattle.std.specs.Prelude.{◌≡◌, ℕ, Bool, true, ◌&&◌, List, [], ◌∷◌, Option, Some, None, min, nat_lt, bytes_eq, if◌then◌else◌, filter_map}
 use Rattle.std.specs.List.{Contains}
 use Rattle.tree_types.specs.declared.node.Node.{Node}
 use Rattle.tree_types.specs.declared.want.Want.{Want}
 use Rattle.tree_types.specs.declared.want.Want.TheVariants as want
 use Rattle.tree_types.specs.Places.{sels_eq}
+use Rattle.meaning.specs.declared.lines.Line.{Line}
 use Rattle.meaning.specs.Lines.{Made, lines_in}
 use Rattle.meaning.specs.Trees.{nodes_in}
 use Rattle.tree_state.specs.declared.kinds.WantKind.{WantKind}
@@ -44,6 +45,10 @@ next_tick clock ws = least (filter_map (due_above clock) ws)
 abbrev pub fits : Clue → Node → Bool
 fits (clue.Path p) n = sels_eq n.path.sels p.now
 fits (clue.Name name) n = bytes_eq n.name name.now
+
+-- among the nodes of some lines, and has the path or the name by which it is looked for
+abbrev pub IsFound : Clue → List Line → Node → Type 0
+IsFound c ls n = (fits c n ≡ true) × Contains (nodes_in ls) n
 
 -- each node of the one is one of the other
 abbrev pub IsWithin : Made → Made → Type 0

@@ -1,10 +1,10 @@
 //! What stands in what a call makes, found without a list of it.
 
-ghost use Rattle.std.specs.Prelude.{◌≡◌, true, IfSome, option_copied};
-ghost use Rattle.std.specs.List.{find, Contains};
+ghost use Rattle.std.specs.Prelude.{◌≡◌, IfSome, option_copied};
+ghost use Rattle.std.specs.List.{find};
 ghost use Rattle.meaning.specs.Lines as lines;
 ghost use Rattle.meaning.specs.Trees.{nodes_in, wants_in};
-ghost use Rattle.tree_state.specs.Finding.{passes, due_above, sooner, next_tick, fits, IsWithin};
+ghost use Rattle.tree_state.specs.Finding.{passes, due_above, sooner, next_tick, IsFound, IsWithin};
 ghost use Rattle.tree_state.specs.Inside.Kids.{own_line, line_then, state_then};
 
 use crate::clue::position_at;
@@ -69,8 +69,7 @@ impl State {
     /// A node that a clue leads to, by the way that paths and names show. What is found fits the clue; where none is found,
     /// there may be one all the same.
     pub fn on_way(&self, clue: &Clue<'_>) -> Option<&Node>
-        ensures { IfSome result (λ node.
-            (fits clue.now node.now ≡ true) × Contains (nodes_in (lines.lines_in self.now)) node.now) }
+        ensures { IfSome result (λ node. IsFound clue.now (lines.lines_in self.now) node.now) }
     {
         let mut state = self;
         for _ in 0..clue.longest_way() {
@@ -132,8 +131,8 @@ fn due_above(want: &Want, clock: u64) -> Option<u64>
     }
 }
 
-// The sooner of two ticks, where there are any.
-fn sooner(one: Option<u64>, other: Option<u64>) -> Option<u64>
+/// The sooner of two ticks, where there are any.
+pub fn sooner(one: Option<u64>, other: Option<u64>) -> Option<u64>
     ensures { result ≡ sooner one other }
 {
     match (one, other) {

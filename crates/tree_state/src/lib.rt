@@ -15,6 +15,7 @@ mod told;
 
 pub use below::Below;
 pub use clue::Clue;
+pub use finding::sooner;
 pub use kinds::WantKind;
 pub use law::counts_nodes;
 pub use questions::{NodeTest, WantTest};

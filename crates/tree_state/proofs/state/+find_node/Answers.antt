@@ -1,14 +1,13 @@
 -- The first node that passes: the own one, else the first kid's that has one.
-use Rattle.std.proofs.Common.{List, Bool, Option, sym, ap, ◌∙◌}
-use Rattle.std.specs.declared.sync.Arc.{Arc}
-use Rattle.std.specs.declared.alloc.Global.{Global}
+use Rattle.std.proofs.Common.{List, Bool, ap, ◌∙◌}
 use Rattle.tree_types.specs.declared.node.Node.{Node}
-use Rattle.meaning.specs.Lines.{Made, nothing, lines_below, lines_in}
+use Rattle.meaning.specs.Lines.{Made, lines_below, lines_in}
 use Rattle.tree_state.specs.declared.state.Kid.{Kid}
-use Rattle.tree_state.specs.Inside.Kids.{line_then, state_then, parts_of}
+use Rattle.tree_state.specs.Inside.Kids.{parts_of}
 use Rattle.tree_state.proofs.Kids.{made_of}
 use Rattle.tree_state.proofs.Firsts.{kid_has, kid_lacks}
-use Rattle.tree_state.proofs.Found.{node_among, nodes_then, own_passes, own_fails}
+use Rattle.tree_state.proofs.Found.{own_passes, own_fails}
+use Rattle.tree_state.proofs.Readings.{node_among, nodes_then}
 use Rattle.tree_state.proofs.state.+find_node.Goals as goal
 
 pub State::find_node-returns-then-accepts : goal.State::find_node-returns-then-accepts

@@ -7,8 +7,9 @@ use Rattle.tree_state.specs.declared.state.Kid.{Kid}
 use Rattle.tree_state.specs.Finding.{passes}
 use Rattle.tree_state.specs.Inside.Kids.{parts_of}
 use Rattle.tree_state.proofs.Kids.{made_of}
-use Rattle.tree_state.proofs.Firsts.{want_among, wants_then, kid_has, kid_lacks, own_has, own_lacks, asks_none}
+use Rattle.tree_state.proofs.Firsts.{kid_has, kid_lacks, own_has, own_lacks, asks_none}
 use Rattle.tree_state.proofs.Found.{lacks_passing}
+use Rattle.tree_state.proofs.Readings.{want_among, wants_then}
 use Rattle.tree_state.proofs.state.+find_want.Goals as goal
 
 pub State::find_want-returns-in-Some : goal.State::find_want-returns-in-Some

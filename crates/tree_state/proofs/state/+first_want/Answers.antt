@@ -6,7 +6,8 @@ use Rattle.tree_state.specs.declared.state.Kid.{Kid}
 use Rattle.tree_state.specs.Asking.{is_of}
 use Rattle.tree_state.specs.Inside.Kids.{parts_of}
 use Rattle.tree_state.proofs.Kids.{made_of}
-use Rattle.tree_state.proofs.Firsts.{want_among, wants_then, kid_has, kid_lacks, own_has, own_lacks, kind_lacks}
+use Rattle.tree_state.proofs.Firsts.{kid_has, kid_lacks, own_has, own_lacks, kind_lacks}
+use Rattle.tree_state.proofs.Readings.{want_among, wants_then}
 use Rattle.tree_state.proofs.state.+first_want.Goals as goal
 
 pub State::first_want-returns-in-Some : goal.State::first_want-returns-in-Some
