@@ -1,8 +1,9 @@
 -- The first row of the key decides.
 use Rattle.std.proofs.Common.{take, drop, suc, sym, ◌∙◌, ap}
-use Rattle.std.specs.Prelude.{option_map}
+use Rattle.std.specs.Prelude.{Some, option_map}
 use Rattle.books.specs.Laws.{is_of}
 use Rattle.sync_locks.specs.Book.{key_by, standing, standing_of}
+use Rattle.sync_locks.specs.declared.row.Asked.{Asked}
 use Rattle.sync_locks.specs.Inside.Rows.{request_in, requests_in, place}
 use Rattle.sync_locks.proofs.Scans.{requests_more, requests_split, requests_all, no_place_more}
 use Rattle.sync_locks.proofs.Ranked.{none_there}
@@ -16,7 +17,8 @@ returns-then-is_by c =
     let rest = requests_in (drop (suc c.loop-i.i) c.args.list.now) in
     let whole = requests_split c.args.list.now c.loop-i.i c.index-list-i.result c.loop-i-test.true c.index-list-i.is in
     let mine = sym c.is_by.ensures ∙ c.if-is_by.true in
-    sym
+    ap (λ (a : Asked). Some (a.lock, c.index-list-i.result.state)) c.deref.ensures
+    ∙ sym
     (ap (standing_of key) whole
     ∙ ap (option_map standing) (request_there key seen rest (request_in c.index-list-i.result) (none_there (is_of key) seen c.loop-i.invariant) mine))
 
