@@ -4,6 +4,7 @@ ghost use Rattle.std.specs.Prelude.{◌≡◌, ◌++◌, ◌∷◌, [], map, IfO
 ghost use Rattle.std.specs.Option.{option_copied};
 ghost use Rattle.std.specs.Arc.{arc_value};
 ghost use Rattle.saves.specs.Saves as saves;
+ghost use Rattle.memo_cache.specs.Saving.{writer};
 
 use crate::SaveRefused;
 use base_types::{Memory, Text, TryCopy};
@@ -11,7 +12,7 @@ use saves::Saved;
 use std::alloc::Global;
 use std::marker::Model;
 use std::sync::Arc;
-use tree_types::{HolderKey, Outputs};
+use tree_types::{HolderKey, Outputs, Path};
 
 /// Saves in the order in which they were made. Copies share them.
 #[derive(Drop)]
@@ -35,10 +36,10 @@ fn is_of(saved: &Saved, cache: &Text, key: &Text) -> bool
     saved.cache == *cache && saved.key == *key
 }
 
-fn is_by(saved: &Saved, writer: &HolderKey) -> bool
-    ensures { result ≡ saves.is_by writer.now saved.now }
+fn is_by(saved: &Saved, workflow: &Text, path: &Path) -> bool
+    ensures { result ≡ saves.is_by (writer workflow.now path.now) saved.now }
 {
-    saved.writer == *writer
+    saved.writer.workflow == *workflow && saved.writer.path == *path
 }
 
 // The last save of a key in a cache.
@@ -56,15 +57,21 @@ fn last_save<'a>(list: &'a [Arc<Saved>], cache: &Text, key: &Text) -> Option<&'a
     None
 }
 
-fn has_saved(list: &[Arc<Saved>], writer: &HolderKey) -> bool
-    ensures { result ≡ saves.has_saved writer.now (map arc_value list.now) }
+fn has_saved(list: &[Arc<Saved>], workflow: &Text, path: &Path) -> bool
+    ensures { result ≡ saves.has_saved (writer workflow.now path.now) (map arc_value list.now) }
 {
     for saved in list {
-        if is_by(saved, writer) {
+        if is_by(saved, workflow, path) {
             return true;
         }
     }
     false
+}
+
+fn has_saved_by(list: &[Arc<Saved>], key: &HolderKey) -> bool
+    ensures { result ≡ saves.has_saved key.now (map arc_value list.now) }
+{
+    has_saved(list, &key.workflow, &key.path)
 }
 
 fn share(list: &[Arc<Saved>], alloc: Global) -> Result<Vec<Arc<Saved>>, Memory>
@@ -113,6 +120,13 @@ impl Cache {
         }
     }
 
+    /// Whether a path of a workflow has saved outputs.
+    pub fn has_saved(&self, workflow: &Text, path: &Path) -> bool
+        ensures { result ≡ saves.has_saved (writer workflow.now path.now) self.now }
+    {
+        has_saved(&self.saves, workflow, path)
+    }
+
     /// Saves outputs, once for a writer.
     pub fn save(
         &mut self,
@@ -128,7 +142,7 @@ impl Cache {
             (self.new ≡ self.old ++ save_of cache key writer outputs tick ∷ []) }
         ensures err { OnErr result (self.new ≡ self.old) }
     {
-        if has_saved(&self.saves, &writer) {
+        if has_saved_by(&self.saves, &writer) {
             Err(SaveRefused::Saved)
         } else {
             let saved = Saved {

@@ -49,7 +49,7 @@ changed_at test f rs i a =
     ∙ changed_there test f a.front a.back a.found a.none a.passes
     ∙ sym (ap₂ (λ (x : List Request) (n : ℕ). set x n (f a.found)) a.is (sym a.long) ∙ set_there a.front a.back a.found (f a.found))
 
-request_there : (key : HolderKey) (front back : List Request) (r : Request) → list_any (is_of key) front ≡ false → is_of key r ≡ true → request_of (front ++ r ∷ back) key ≡ Some r
+pub request_there : (key : HolderKey) (front back : List Request) (r : Request) → list_any (is_of key) front ≡ false → is_of key r ≡ true → request_of (front ++ r ∷ back) key ≡ Some r
 request_there key [] back r f t = ap (λ c. cond c (Some r) (request_of back key)) t
 request_there key (q ∷ front) back r f t = by (key_eq key q.key) f (λ k. request_there key front back r k t)
   where

@@ -4,13 +4,13 @@ use crate::limit::limit_of;
 use crate::refused::{FileRefused, NotHolding};
 use crate::row::{
     Asked, Row, add_row, holder_of, holders_beside, holders_of, new_state, pass_on, set_state,
-    share_rows, state_in,
+    share_rows, standing_of, state_in,
 };
-use base_types::{Memory, TryCopy};
+use base_types::{Memory, Text, TryCopy};
 use books::{LockState, laws};
 use std::marker::Model;
 use std::sync::Arc;
-use tree_types::{HolderKey, Limits, LockId, Rank};
+use tree_types::{HolderKey, Limits, LockId, Path, Rank};
 
 /// Requests for locks in order of filing, which contracts see with the limits. No waiter's lock has room, no lock has more
 /// holders than its limit, and each key has at most one request.
@@ -34,10 +34,10 @@ impl Model for LockBook {
 }
 
 impl LockBook {
-    ghost use Rattle.std.specs.Prelude.{◌≡◌, ◌↔◌, ◌≤◌, IsOk, IsErrOf, IfOk, OnOk, OnErr, IsSome};
+    ghost use Rattle.std.specs.Prelude.{◌≡◌, ◌↔◌, ◌≤◌, IsOk, IsErrOf, IfOk, OnOk, OnErr, IsSome, option_map};
     ghost use Rattle.books.specs.Books as books;
     ghost use Rattle.books.specs.Laws.{IsWellKept};
-    ghost use Rattle.sync_locks.specs.Book.{unfilled, with_filed, with_freed, state_in};
+    ghost use Rattle.sync_locks.specs.Book.{unfilled, with_filed, with_freed, state_in, key_by, standing_of};
 
     /// The book without requests.
     pub fn new(limits: Limits) -> Result<LockBook, Memory>
@@ -92,6 +92,14 @@ impl LockBook {
         ensures { result ≡ state_in key.now self.now.requests }
     {
         state_in(&self.rows, key)
+    }
+
+    /// Which lock a path of a workflow asked for, and how its request stands.
+    pub fn standing(&self, workflow: &Text, path: &Path) -> Option<(&LockId, LockState)>
+        ensures { option_map (λ s. (s.0.now, s.1)) result
+            ≡ standing_of (key_by workflow.now path.now) self.now.requests }
+    {
+        standing_of(&self.rows, workflow, path)
     }
 
     /// How many hold a lock.

@@ -1,20 +1,20 @@
 //! The requests of a book, and the scans over them.
 
-ghost use Rattle.std.specs.Prelude.{◌≡◌, ◌<◌, length, true, false, IfOk, OnOk, OnErr, MatchOption, ◌++◌, ◌∷◌, [], nat_lt, vec_len, slice_get, slice_set};
+ghost use Rattle.std.specs.Prelude.{◌≡◌, ◌<◌, length, true, false, IfOk, OnOk, OnErr, MatchOption, option_map, ◌++◌, ◌∷◌, [], nat_lt, vec_len, slice_get, slice_set};
 ghost use Rattle.std.specs.Option.{ForSome};
 ghost use Rattle.std.specs.List.{list_any};
 ghost use Rattle.books.specs.declared.Request.{Request};
 ghost use Rattle.books.specs.Books as books;
 ghost use Rattle.books.specs.Laws as laws;
-ghost use Rattle.sync_locks.specs.Book.{state_in};
+ghost use Rattle.sync_locks.specs.Book.{state_in, key_by, standing_of};
 ghost use Rattle.sync_locks.specs.Inside.Rows as rows;
 
 use crate::ranking::is_before;
-use base_types::Memory;
+use base_types::{Memory, Text};
 use books::{LockState, laws};
 use std::alloc::Global;
 use std::sync::Arc;
-use tree_types::{HolderKey, LockId, Rank};
+use tree_types::{HolderKey, LockId, Path, Rank};
 
 // What a key asked for, which never changes.
 #[derive(Drop)]
@@ -46,6 +46,13 @@ impl Row {
         ensures { result ≡ laws.is_of key.now (rows.request_in self.now) }
     {
         *key == self.asked.key
+    }
+
+    // Whether it is of the key of these parts.
+    fn is_by(&self, workflow: &Text, path: &Path) -> bool
+        ensures { result ≡ laws.is_of (key_by workflow.now path.now) (rows.request_in self.now) }
+    {
+        *workflow == self.asked.key.workflow && *path == self.asked.key.path
     }
 
     fn holds(&self, lock: &LockId) -> bool
@@ -113,6 +120,24 @@ pub(crate) fn state_in(list: &[Row], key: &HolderKey) -> Option<LockState>
         None => None,
         Some(found) => Some(found.state),
     }
+}
+
+// Which lock the key of these parts asked for, and how its request stands.
+pub(crate) fn standing_of<'a>(
+    list: &'a [Row],
+    workflow: &Text,
+    path: &Path,
+) -> Option<(&'a LockId, LockState)>
+    ensures { option_map (λ s. (s.0.now, s.1)) result
+        ≡ standing_of (key_by workflow.now path.now) (rows.requests_in list.now) }
+{
+    for i in 0..list.len() {
+        let row = &list[i];
+        if row.is_by(workflow, path) {
+            return Some((&row.asked.lock, row.state));
+        }
+    }
+    None
 }
 
 // How many hold a lock.

@@ -6,15 +6,16 @@ use Rattle.std.specs.declared.sync.Arc.{Arc}
 use Rattle.std.specs.declared.alloc.Global.{Global}
 use Rattle.saves.specs.declared.Saved.{Saved}
 use Rattle.saves.specs.Saves.{is_by, has_saved}
+use Rattle.memo_cache.specs.Saving.{writer}
 use Rattle.memo_cache.proofs.Walks.{shared, one_more, has_there}
 use Rattle.memo_cache.proofs.cache.has_saved.Goals as goal
 
 pub returns-then-is_by : goal.returns-then-is_by
-returns-then-is_by c = sym (has_there c.args.list.now (c.loop-saved.saved-index + 1) c.args.writer.now
-    (one_more c.args.list.now c.loop-saved.saved-index c.saved-item.result c.args.writer.now true c.loop-saved-test.true c.saved-item.is c.loop-saved.invariant (ap (is_by c.args.writer.now) (sym c.deref.ensures) ∙ sym c.is_by.ensures ∙ c.if-is_by.true)))
+returns-then-is_by c = sym (has_there c.args.list.now (c.loop-saved.saved-index + 1) (writer c.args.workflow.now c.args.path.now)
+    (one_more c.args.list.now c.loop-saved.saved-index c.saved-item.result (writer c.args.workflow.now c.args.path.now) true c.loop-saved-test.true c.saved-item.is c.loop-saved.invariant (ap (is_by (writer c.args.workflow.now c.args.path.now)) (sym c.deref.ensures) ∙ sym c.is_by.ensures ∙ c.if-is_by.true)))
 
 pub loop-saved-preserved : goal.loop-saved-preserved
-loop-saved-preserved c = one_more c.args.list.now c.loop-saved.saved-index c.saved-item.result c.args.writer.now false c.loop-saved-test.true c.saved-item.is c.loop-saved.invariant (ap (is_by c.args.writer.now) (sym c.deref.ensures) ∙ sym c.is_by.ensures ∙ c.if-is_by.false)
+loop-saved-preserved c = one_more c.args.list.now c.loop-saved.saved-index c.saved-item.result (writer c.args.workflow.now c.args.path.now) false c.loop-saved-test.true c.saved-item.is c.loop-saved.invariant (ap (is_by (writer c.args.workflow.now c.args.path.now)) (sym c.deref.ensures) ∙ sym c.is_by.ensures ∙ c.if-is_by.false)
 
 pub returns : goal.returns
-returns c = sym (ap (λ (x : List (Arc Saved Global)). has_saved c.args.writer.now (shared x)) (sym (take_all c.loop-saved.saved-index c.args.list.now c.loop-saved-test.false)) ∙ c.loop-saved.invariant)
+returns c = sym (ap (λ (x : List (Arc Saved Global)). has_saved (writer c.args.workflow.now c.args.path.now) (shared x)) (sym (take_all c.loop-saved.saved-index c.args.list.now c.loop-saved-test.false)) ∙ c.loop-saved.invariant)

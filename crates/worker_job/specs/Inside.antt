@@ -1,0 +1,53 @@
+-- What speaks only of private code.
+use Rattle.std.specs.Prelude.{◌≡◌, List, map, reverse, Option, Some, None, IsSome, option_map, option_and_then}
+use Rattle.tree_types.specs.declared.entry.Key.{Key}
+use Rattle.tree_types.specs.declared.entry.Key.TheVariants.{Workflow, Locks, Caches}
+use Rattle.saves.specs.declared.Saved.{Saved}
+use Rattle.object_store.specs.declared.snapshot.Snapshot.{Snapshot}
+use Rattle.looks.specs.declared.Look.{Look}
+use Rattle.law.specs.Contents.{Flow, PodObject, Book, Content, flow_in}
+use Rattle.wf_object.specs.Kept.{locks_in, caches_in}
+use Rattle.next_step.specs.Views.{Seen, Look as PodLook, Views}
+use Rattle.next_step.specs.Replies.{seen}
+use Rattle.worker_job.specs.declared.job.SeenPod.{SeenPod}
+use Rattle.worker_job.specs.declared.job.Job.TheInside.{Inside}
+use Rattle.worker_job.specs.Jobs.{OneJob}
+
+-- ---- what was read, as views
+
+abbrev pub flow_seen : Snapshot Content → Option (Seen Flow)
+flow_seen s = option_map (λ f. seen s.version f s.tick) (flow_in (Some s.content))
+
+abbrev pub book_seen : Snapshot Content → Option (Seen Book)
+book_seen s = option_map (λ b. seen s.version b s.tick) (locks_in (Some s.content))
+
+abbrev pub saves_seen : Snapshot Content → Option (Seen (List Saved))
+saves_seen s = option_map (λ ss. seen s.version ss s.tick) (caches_in (Some s.content))
+
+abbrev pub pod_told : SeenPod → Seen PodObject
+pod_told s = seen s.version s.pod s.tick
+
+abbrev pub look_told : Look SeenPod → PodLook
+look_told l = record { name = l.name; found = option_map pod_told l.found }
+
+abbrev pub views_of : Inside → Views
+views_of a = record {
+  flow = option_and_then flow_seen a.flow;
+  book = option_and_then book_seen a.book;
+  saves = option_and_then saves_seen a.saves;
+  pods = map look_told a.looks;
+  tried = reverse a.tried;
+}
+
+abbrev pub job_of : Inside → OneJob
+job_of a = record { workflow = a.workflow; views = views_of a }
+
+-- a snapshot is of this key, and of its kind
+abbrev pub IsOf : {C : Type 0} → Key → (Snapshot Content → Option (Seen C)) → Option (Snapshot Content) → Type 0
+IsOf k see None = Unit {0}
+IsOf k see (Some s) = (s.key ≡ k) × IsSome (see s)
+
+pub record IsKept (a : Inside) : Type 0 where
+  pub flow : IsOf (Workflow a.workflow) flow_seen a.flow
+  pub book : IsOf Locks book_seen a.book
+  pub saves : IsOf Caches saves_seen a.saves

@@ -1,0 +1,56 @@
+-- A worker's job on one workflow, and what its snapshots show.
+use Rattle.std.specs.Prelude.{◌≡◌, Bool, true, false, List, Some, Option}
+use Rattle.tree_types.specs.declared.entry.Key.{Key}
+use Rattle.tree_types.specs.declared.entry.Key.TheVariants.{Workflow, Pod, Locks, Caches}
+use Rattle.saves.specs.declared.Saved.{Saved}
+use Rattle.object_store.specs.declared.snapshot.Snapshot.{Snapshot}
+use Rattle.law.specs.Documents.{Text}
+use Rattle.law.specs.Contents.{Flow, Book, Content, OfWorkflow, OfLocks, OfCaches}
+use Rattle.next_step.specs.Views.{Seen, Views}
+use Rattle.next_step.specs.Replies.{Job, Ending, goes_on, ended, seen}
+
+-- the workflow, and what was read and noted
+pub record OneJob : Type 0 where
+  pub workflow : Text
+  pub views : Views
+
+-- a job that goes on has these views
+abbrev pub Leaves : Bool → Job → Views → Type 0
+Leaves true j v = j ≡ goes_on v
+Leaves false j v = (e : Ending) × (j ≡ ended e)
+
+-- what a job on a workflow reads
+abbrev pub IsRead : Text → Key → Type 0
+IsRead w (Workflow x) = x ≡ w
+IsRead w (Pod x name) = x ≡ w
+IsRead w Locks = Unit {0}
+IsRead w Caches = Unit {0}
+
+-- ---- the object of a view
+
+pub record ShownFlow (s : Snapshot Content) (w : Text) (view : Option (Seen Flow)) : Type 0 where
+  pub flow : Flow
+  pub key : s.key ≡ Workflow w
+  pub content : s.content ≡ OfWorkflow flow
+  pub viewed : view ≡ Some (seen s.version flow s.tick)
+
+pub record ShownBook (s : Snapshot Content) (view : Option (Seen Book)) : Type 0 where
+  pub book : Book
+  pub key : s.key ≡ Locks
+  pub content : s.content ≡ OfLocks book
+  pub viewed : view ≡ Some (seen s.version book s.tick)
+
+pub record ShownSaves (s : Snapshot Content) (view : Option (Seen (List Saved))) : Type 0 where
+  pub saved : List Saved
+  pub key : s.key ≡ Caches
+  pub content : s.content ≡ OfCaches saved
+  pub viewed : view ≡ Some (seen s.version saved s.tick)
+
+abbrev pub ShowsFlow : Snapshot Content → Text → Views → Type 0
+ShowsFlow s w v = ShownFlow s w v.flow
+
+abbrev pub ShowsBook : Snapshot Content → Views → Type 0
+ShowsBook s v = ShownBook s v.book
+
+abbrev pub ShowsSaves : Snapshot Content → Views → Type 0
+ShowsSaves s v = ShownSaves s v.saves

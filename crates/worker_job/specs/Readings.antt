@@ -1,0 +1,100 @@
+-- A reading of a worker: its views with the workflow among them, and what the steps of `next_step` make of it.
+use Rattle.std.specs.Prelude.{List, Bool, Option, option_map, option_and_then}
+use Rattle.tree_types.specs.declared.path.Path.{Path}
+use Rattle.tree_types.specs.declared.path.LockId.{LockId}
+use Rattle.tree_types.specs.declared.node.Node.{Node}
+use Rattle.tree_types.specs.declared.want.Want.{Want}
+use Rattle.saves.specs.declared.Saved.{Saved}
+use Rattle.sync_locks.specs.Book.{standing}
+use Rattle.books.specs.declared.LockState.{LockState}
+use Rattle.books.specs.declared.Request.{Request}
+use Rattle.law.specs.Documents.{Text, Command, Document}
+use Rattle.law.specs.Contents.{Flow, PodObject}
+use Rattle.law.specs.Due.{Matter, node_name, name_at}
+use Rattle.wf_object.specs.Documents.{law_of}
+use Rattle.law.specs.Justified.{tree_of}
+use Rattle.next_step.specs.Views.{Seen, Views, first_given}
+use Rattle.next_step.specs.Next as next
+use Rattle.next_step.specs.Next.{Next, Step}
+use Rattle.next_step.specs.Replies.{seen}
+use Rattle.worker_job.specs.declared.matter.Next.{Next as Act}
+use Rattle.worker_job.specs.declared.reading.Reading.{Reading}
+use Rattle.worker_job.specs.Told.{next_told}
+
+abbrev pub step_told : Option Act → Step
+step_told o = option_map next_told o
+
+module _ (r : Reading) where
+  abbrev pub law : Document
+  law = law_of r.document.now
+
+  abbrev pub workflow : Text
+  workflow = r.job.now.workflow
+
+  abbrev pub views : Views
+  views = r.job.now.views
+
+  abbrev pub flow : Seen Flow
+  flow = seen r.version r.object.now r.tick
+
+  -- ---- questions
+
+  abbrev pub named : Path → Option Text
+  named p = node_name r.object.now p.sels
+
+  abbrev pub named_at : Path → Option Text
+  named_at p = name_at r.object.now p.sels
+
+  abbrev pub request : Path → Option Request
+  request p = next.request_in law workflow views flow p views.book
+
+  abbrev pub stands : Path → Option (LockId × LockState)
+  stands p = option_map standing (request p)
+
+  abbrev pub pod_of : Path → Option PodObject
+  pod_of p = next.pod_at law workflow views flow p.sels
+
+  -- ---- what is given
+
+  abbrev pub reading : Want → Step
+  reading = next.reading law workflow views flow
+
+  abbrev pub settling : Want → Option Matter
+  settling = next.settling law workflow views flow
+
+  abbrev pub granting : Want → Option Matter
+  granting = next.granting law workflow views flow
+
+  abbrev pub filing : Want → Option Matter
+  filing = next.filing law workflow views flow
+
+  abbrev pub timing : Want → Option Matter
+  timing = next.timing law workflow views flow
+
+  abbrev pub resuming : Node → Option Matter
+  resuming = next.resuming law workflow views flow
+
+  abbrev pub creating : Want → Option Matter
+  creating = next.creating law workflow views flow
+
+  abbrev pub saving : List Saved → Want → Option Matter
+  saving = next.saving law workflow views flow
+
+  abbrev pub releasing : Node → Option Matter
+  releasing = next.releasing law workflow views flow
+
+  abbrev pub submitting : Command → Option Matter
+  submitting = next.submitting law workflow views flow
+
+  -- ---- the first that is given
+
+  abbrev pub asked : {B : Type 0} → (Want → Option B) → Option B
+  asked give = next.asked law workflow views flow give
+
+  abbrev pub first_node : {B : Type 0} → (Node → Option B) → Option B
+  first_node give = first_given give (tree_of r.object.now)
+
+  -- ---- the steps
+
+  abbrev pub steps : List Step
+  steps = next.steps law workflow views flow

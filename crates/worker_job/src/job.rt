@@ -1,0 +1,338 @@
+//! What was read and noted in a job.
+
+ghost use Rattle.std.specs.Prelude.{◌≡◌, ◌∷◌, None, Some, not, IfOk, MatchOption, option_copied, option_map, reverse, map};
+ghost use Rattle.std.specs.List.{list_any};
+ghost use Rattle.std.specs.Prelude.{bytes_eq};
+ghost use Rattle.tree_types.specs.declared.entry.Key.TheVariants as of_key;
+ghost use Rattle.saves.specs.declared.Saved.{Saved};
+ghost use Rattle.law.specs.Contents.{Book};
+ghost use Rattle.wf_object.specs.Documents.{law_of};
+ghost use Rattle.wf_object.specs.Kept.{law_book};
+ghost use Rattle.next_step.specs.Views.{nothing, look_at, pod_seen};
+ghost use Rattle.next_step.specs.Next.{worker_next, get, act};
+ghost use Rattle.next_step.specs.Replies.{after, taken, seen, found, accepted, no_object, exists};
+ghost use Rattle.worker_job.specs.Jobs.{Leaves, IsRead, ShowsFlow, ShowsBook, ShowsSaves};
+ghost use Rattle.worker_job.specs.Told.{matter_told, next_told, key_of};
+ghost use Rattle.worker_job.specs.Inside.{look_told};
+
+use crate::matter::{Matter, Next};
+use crate::reading::Reading;
+use base_types::{List, Memory, Names, Text, TryCopy};
+use looks::{Look, Looks};
+use memo_cache::Cache;
+use object_store::Snapshot;
+use std::alloc::Global;
+use std::marker::Model;
+use std::mem;
+use sync_locks::LockBook;
+use tree_types::Key;
+use wf_bundle::Document;
+use wf_object::{PodObject, WfContent};
+
+/// A pod as it was read.
+#[derive(Drop)]
+pub(crate) struct SeenPod {
+    pub(crate) version: u64,
+    pub(crate) pod: PodObject,
+    pub(crate) tick: u64,
+}
+
+/// A worker's job on one workflow. Contracts see the workflow's name, and what was read and noted so far.
+#[derive(Drop)]
+pub struct Job {
+    workflow: Text,
+    flow: Option<Snapshot<WfContent>>,
+    book: Option<Snapshot<WfContent>>,
+    saves: Option<Snapshot<WfContent>>,
+    looks: Looks<SeenPod>,
+    // The names of the resubmissions that were tried, the last one last.
+    tried: Names,
+}
+
+impl Model for Job {
+    ghost use Rattle.worker_job.specs.Jobs.{OneJob};
+
+    ghost Value = { OneJob };
+
+    ghost use Rattle.worker_job.specs.Inside.{job_of, IsKept};
+
+    ghost view = { job_of };
+
+    ghost invariant = { IsKept };
+}
+
+impl Job {
+    /// A job that begins. It takes no memory.
+    pub fn new(alloc: Global, workflow: Text) -> Job
+        ensures { result ≡ record { workflow = workflow; views = nothing } }
+    {
+        Job {
+            workflow,
+            flow: None,
+            book: None,
+            saves: None,
+            looks: Looks::new(alloc),
+            tried: List::new(alloc),
+        }
+    }
+
+    /// The workflow's name.
+    pub fn workflow(&self) -> &Text
+        ensures { result.now ≡ self.now.workflow }
+    {
+        &self.workflow
+    }
+
+    /// The next step, by what was read and noted.
+    pub fn next(&self, document: &Document) -> Result<Next, Memory>
+        ensures { IfOk result (λ n. next_told n
+            ≡ worker_next (law_of document.now) self.now.workflow self.now.views) }
+    {
+        match self.flow() {
+            None => Ok(Next::Get(Key::Workflow(self.workflow.copy()?))),
+            Some(snapshot) => {
+                let Some(object) = snapshot.content.workflow() else {
+                    unreachable!()
+                };
+                let reading = Reading {
+                    job: self,
+                    document,
+                    object,
+                    version: snapshot.version,
+                    tick: snapshot.tick,
+                };
+                reading.next()
+            }
+        }
+    }
+
+    // ---- the views
+
+    /// The workflow as it was read.
+    pub fn flow(&self) -> Option<&Snapshot<WfContent>>
+        ensures { MatchOption result
+            (self.now.views.flow ≡ None)
+            (λ s. ShowsFlow s.now self.now.workflow self.now.views) }
+    {
+        self.flow.as_ref()
+    }
+
+    /// The lock book as it was read.
+    pub fn book(&self) -> Option<&Snapshot<WfContent>>
+        ensures { MatchOption result
+            (self.now.views.book ≡ None)
+            (λ s. ShowsBook s.now self.now.views) }
+    {
+        self.book.as_ref()
+    }
+
+    /// The saves as they were read.
+    pub fn saves(&self) -> Option<&Snapshot<WfContent>>
+        ensures { MatchOption result
+            (self.now.views.saves ≡ None)
+            (λ s. ShowsSaves s.now self.now.views) }
+    {
+        self.saves.as_ref()
+    }
+
+    // The lock book.
+    pub(crate) fn locks(&self) -> Option<&LockBook>
+        ensures { option_map (λ book. law_book book.now) result
+            ≡ option_map (λ b. b.content) self.now.views.book }
+    {
+        match self.book() {
+            None => None,
+            Some(snapshot) => snapshot.content.locks(),
+        }
+    }
+
+    // The saves, and the tick at which they were read.
+    pub(crate) fn cache(&self) -> Option<(&Cache, u64)>
+        ensures { option_map (λ c. (c.0.now, c.1)) result
+            ≡ option_map (λ c. (c.content, c.tick)) self.now.views.saves }
+    {
+        match self.saves() {
+            None => None,
+            Some(snapshot) => match snapshot.content.caches() {
+                None => None,
+                Some(cache) => Some((cache, snapshot.tick)),
+            },
+        }
+    }
+
+    // The last look at the pod of a name.
+    pub(crate) fn look(&self, name: &Text) -> Option<&Look<SeenPod>>
+        ensures { option_map (λ l. look_told l.now) result ≡ look_at self.now.views name.now }
+    {
+        self.looks.last(name)
+    }
+
+    // The pod of a name, as it was read.
+    pub(crate) fn pod(&self, name: &Text) -> Option<&PodObject>
+        ensures { option_copied result ≡ pod_seen self.now.views name.now }
+    {
+        match self.look(name) {
+            None => None,
+            Some(look) => match &look.found {
+                None => None,
+                Some(seen) => Some(&seen.pod),
+            },
+        }
+    }
+
+    // Whether the resubmission of a name was tried.
+    pub(crate) fn has_tried(&self, name: &Text) -> bool
+        ensures { result ≡ list_any (bytes_eq name.now) self.now.views.tried }
+    {
+        is_among(name, self.tried.as_slice())
+    }
+
+    // ---- what an answer makes of the job: each tells whether it goes on
+
+    /// What was asked for is this.
+    pub fn found(&mut self, snapshot: Snapshot<WfContent>) -> Result<bool, Memory>
+        requires { IsRead self.old.workflow snapshot.key }
+        ensures after { IfOk result (λ on. Leaves on
+            (after self.old.views (get snapshot.key)
+            (found (seen snapshot.version snapshot.content snapshot.tick))) self.new.views) }
+        ensures workflow { self.new.workflow ≡ self.old.workflow }
+    {
+        match &snapshot.key {
+            Key::Workflow(_) => Ok(self.keep_flow(snapshot)),
+            Key::Pod(_, name) => {
+                let name = name.copy()?;
+                self.keep_pod(name, &snapshot)
+            }
+            Key::Locks => Ok(self.keep_book(snapshot)),
+            Key::Caches => Ok(self.keep_saves(snapshot)),
+        }
+    }
+
+    /// What was asked for is not there.
+    pub fn absent(&mut self, key: &Key) -> Result<bool, Memory>
+        ensures after { IfOk result (λ on. Leaves on
+            (after self.old.views (get key.now) no_object) self.new.views) }
+        ensures workflow { self.new.workflow ≡ self.old.workflow }
+    {
+        match key {
+            Key::Pod(_, name) => {
+                self.looks.add(name.copy()?, None)?;
+                Ok(true)
+            }
+            _ => Ok(false),
+        }
+    }
+
+    /// The change was accepted, and its object is this.
+    pub fn did(
+        &mut self,
+        matter: &Matter,
+        snapshot: Snapshot<WfContent>,
+    ) -> Result<bool, Memory>
+        requires { snapshot.key ≡ key_of self.old.workflow (matter_told matter.now) }
+        ensures after { IfOk result (λ on. Leaves on
+            (after self.old.views (act (matter_told matter.now))
+            (accepted (seen snapshot.version snapshot.content snapshot.tick))) self.new.views) }
+        ensures workflow { self.new.workflow ≡ self.old.workflow }
+    {
+        match matter {
+            Matter::Submit(resubmission) => {
+                self.tried.push(resubmission.name.copy()?)?;
+                Ok(true)
+            }
+            _ => self.found(snapshot),
+        }
+    }
+
+    /// What was to be made is there already.
+    pub fn there(&mut self, matter: &Matter) -> Result<bool, Memory>
+        ensures after { IfOk result (λ on. Leaves on
+            (after self.old.views (act (matter_told matter.now)) exists) self.new.views) }
+        ensures workflow { self.new.workflow ≡ self.old.workflow }
+    {
+        match matter {
+            Matter::Create(_, name) => {
+                let none = Looks::new(self.workflow.allocator());
+                let looks = mem::replace(&mut self.looks, none);
+                self.looks = looks.without(name)?;
+                Ok(true)
+            }
+            Matter::Submit(resubmission) => {
+                self.tried.push(resubmission.name.copy()?)?;
+                Ok(true)
+            }
+            _ => Ok(false),
+        }
+    }
+
+    fn keep_flow(&mut self, snapshot: Snapshot<WfContent>) -> bool
+        requires { snapshot.key ≡ of_key.Workflow self.old.workflow }
+        ensures after { Leaves result
+            (taken self.old.views snapshot.key snapshot.version snapshot.tick snapshot.content)
+            self.new.views }
+        ensures workflow { self.new.workflow ≡ self.old.workflow }
+    {
+        let is_workflow = snapshot.content.workflow().is_some();
+        if is_workflow {
+            self.flow = Some(snapshot);
+            self.saves = None;
+        }
+        is_workflow
+    }
+
+    fn keep_book(&mut self, snapshot: Snapshot<WfContent>) -> bool
+        requires { snapshot.key ≡ of_key.Locks }
+        ensures after { Leaves result
+            (taken self.old.views snapshot.key snapshot.version snapshot.tick snapshot.content)
+            self.new.views }
+        ensures workflow { self.new.workflow ≡ self.old.workflow }
+    {
+        let is_book = snapshot.content.locks().is_some();
+        if is_book {
+            self.book = Some(snapshot);
+        }
+        is_book
+    }
+
+    fn keep_saves(&mut self, snapshot: Snapshot<WfContent>) -> bool
+        requires { snapshot.key ≡ of_key.Caches }
+        ensures after { Leaves result
+            (taken self.old.views snapshot.key snapshot.version snapshot.tick snapshot.content)
+            self.new.views }
+        ensures workflow { self.new.workflow ≡ self.old.workflow }
+    {
+        let is_cache = snapshot.content.caches().is_some();
+        if is_cache {
+            self.saves = Some(snapshot);
+        }
+        is_cache
+    }
+
+    // A look at the pod of a name.
+    fn keep_pod(&mut self, name: Text, snapshot: &Snapshot<WfContent>) -> Result<bool, Memory>
+        ensures after { IfOk result (λ on. Leaves on
+            (taken self.old.views (of_key.Pod self.old.workflow name)
+            snapshot.now.version snapshot.now.tick snapshot.now.content)
+            self.new.views) }
+        ensures workflow { self.new.workflow ≡ self.old.workflow }
+    {
+        match snapshot.content.pod() {
+            None => Ok(false),
+            Some(pod) => {
+                let seen = SeenPod {
+                    version: snapshot.version,
+                    pod: pod.copy()?,
+                    tick: snapshot.tick,
+                };
+                self.looks.add(name, Some(seen))?;
+                Ok(true)
+            }
+        }
+    }
+}
+
+fn is_among(name: &Text, names: &[Text]) -> bool
+    ensures { result ≡ list_any (bytes_eq name.now) (reverse names.now) }
+{
+    names.iter().any(|tried| *name == *tried)
+}

@@ -1,0 +1,11 @@
+//! A worker's job on one workflow: what it has read and noted, what it does next by that, and what an answer makes of it.
+#![tactic(auto)]
+
+mod job;
+mod matter;
+mod queries;
+mod reading;
+mod steps;
+
+pub use job::Job;
+pub use matter::{Matter, Next, Resubmission};

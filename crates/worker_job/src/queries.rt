@@ -1,0 +1,255 @@
+//! The first want or node of the tree that gives something.
+
+ghost use Rattle.std.specs.Prelude.{◌≡◌, Some, None, is_some, option_map};
+ghost use Rattle.tree_types.specs.declared.fact.Fact.TheVariants as fact;
+ghost use Rattle.tree_types.specs.declared.entry.Key.TheVariants as of_key;
+ghost use Rattle.tree_types.specs.declared.want.Want.{Want as Wanted};
+ghost use Rattle.tree_types.specs.declared.node.Node.{Node as TreeNode};
+ghost use Rattle.law.specs.Justified as justified;
+ghost use Rattle.law.specs.Due.{record_fact, file, create, save, release};
+ghost use Rattle.next_step.specs.Views.{first_given};
+ghost use Rattle.next_step.specs.Next.{get};
+ghost use Rattle.worker_job.specs.Readings as reads;
+
+use crate::reading::Reading;
+use base_types::Text;
+use memo_cache::Cache;
+use tree_incr::{NodeTest, WantKind, WantTest};
+use tree_types::{LockId, Node, Outcome, Outputs, Path, Want};
+
+// A pod that was not looked at.
+struct Unlooked<'a> {
+    reading: Reading<'a>,
+}
+
+impl<'a> WantTest for Unlooked<'a> {
+    ghost accepts = { λ test want. is_some (reads.reading test.reading want) };
+
+    fn accepts(&self, want: &Want) -> bool {
+        self.reading.unlooked(want).is_some()
+    }
+}
+
+// A pod that finished.
+struct Finished<'a> {
+    reading: Reading<'a>,
+}
+
+impl<'a> WantTest for Finished<'a> {
+    ghost accepts = { λ test want. is_some (reads.settling test.reading want) };
+
+    fn accepts(&self, want: &Want) -> bool {
+        self.reading.finished(want).is_some()
+    }
+}
+
+// A lock that the book shows as held.
+struct Holding<'a> {
+    reading: Reading<'a>,
+}
+
+impl<'a> WantTest for Holding<'a> {
+    ghost accepts = { λ test want. is_some (reads.granting test.reading want) };
+
+    fn accepts(&self, want: &Want) -> bool {
+        self.reading.holding(want).is_some()
+    }
+}
+
+// A lock that the book does not know.
+struct Unknown<'a> {
+    reading: Reading<'a>,
+}
+
+impl<'a> WantTest for Unknown<'a> {
+    ghost accepts = { λ test want. is_some (reads.filing test.reading want) };
+
+    fn accepts(&self, want: &Want) -> bool {
+        self.reading.unknown(want).is_some()
+    }
+}
+
+// A timer that the view's tick has reached.
+struct Reached<'a> {
+    reading: Reading<'a>,
+}
+
+impl<'a> WantTest for Reached<'a> {
+    ghost accepts = { λ test want. is_some (reads.timing test.reading want) };
+
+    fn accepts(&self, want: &Want) -> bool {
+        self.reading.reached(want).is_some()
+    }
+}
+
+// A pod that was noted as absent.
+struct Noted<'a> {
+    reading: Reading<'a>,
+}
+
+impl<'a> WantTest for Noted<'a> {
+    ghost accepts = { λ test want. is_some (reads.creating test.reading want) };
+
+    fn accepts(&self, want: &Want) -> bool {
+        self.reading.noted(want).is_some()
+    }
+}
+
+// What is not among the saves.
+struct Unsaved<'a> {
+    reading: Reading<'a>,
+    saves: &'a Cache,
+}
+
+impl<'a> WantTest for Unsaved<'a> {
+    ghost accepts = { λ test want. is_some (reads.saving test.reading test.saves.now want) };
+
+    fn accepts(&self, want: &Want) -> bool {
+        self.reading.unsaved(self.saves, want).is_some()
+    }
+}
+
+// A suspended node that is resumed.
+struct Resumed<'a> {
+    reading: Reading<'a>,
+}
+
+impl<'a> NodeTest for Resumed<'a> {
+    ghost accepts = { λ test node. is_some (reads.resuming test.reading node) };
+
+    fn accepts(&self, node: &Node) -> bool {
+        self.reading.resumed(node).is_some()
+    }
+}
+
+// A node that is over and holds its lock.
+struct Kept<'a> {
+    reading: Reading<'a>,
+}
+
+impl<'a> NodeTest for Kept<'a> {
+    ghost accepts = { λ test node. is_some (reads.releasing test.reading node) };
+
+    fn accepts(&self, node: &Node) -> bool {
+        self.reading.kept(node).is_some()
+    }
+}
+
+impl<'a> Reading<'a> {
+    // The name of the first pod that was not looked at.
+    pub(crate) fn first_unlooked(&self) -> Option<&Text>
+        ensures { option_map (λ n. get (of_key.Pod (reads.workflow self.now) n.now)) result
+            ≡ reads.asked self.now (reads.reading self.now) }
+    {
+        let test = Unlooked { reading: *self };
+        match self.object.state().find_want(WantKind::Pod, &test) {
+            None => None,
+            Some(want) => self.unlooked(want),
+        }
+    }
+
+    // The first pod that finished, and its outcome.
+    pub(crate) fn first_finished(&self) -> Option<(&Path, &Outcome)>
+        ensures { option_map (λ f. record_fact (fact.Settled f.0.now f.1.now)) result
+            ≡ reads.asked self.now (reads.settling self.now) }
+    {
+        let test = Finished { reading: *self };
+        match self.object.state().find_want(WantKind::Pod, &test) {
+            None => None,
+            Some(want) => self.finished(want),
+        }
+    }
+
+    // The first lock that the book shows as held.
+    pub(crate) fn first_holding(&self) -> Option<&Path>
+        ensures { option_map (λ p. record_fact (fact.Granted p.now)) result
+            ≡ reads.asked self.now (reads.granting self.now) }
+    {
+        let test = Holding { reading: *self };
+        match self.object.state().find_want(WantKind::Lock, &test) {
+            None => None,
+            Some(want) => self.holding(want),
+        }
+    }
+
+    // The first lock that the book does not know.
+    pub(crate) fn first_unknown(&self) -> Option<(&Path, &LockId, &Text)>
+        ensures { option_map
+            (λ u. file u.1.now (justified.key (reads.workflow self.now) u.0.now)
+            (justified.rank self.now.object.now.manifest u.0.now.sels u.2.now)) result
+            ≡ reads.asked self.now (reads.filing self.now) }
+    {
+        let test = Unknown { reading: *self };
+        match self.object.state().find_want(WantKind::Lock, &test) {
+            None => None,
+            Some(want) => self.unknown(want),
+        }
+    }
+
+    // The first timer that the view's tick has reached.
+    pub(crate) fn first_reached(&self) -> Option<&Path>
+        ensures { option_map (λ p. record_fact (fact.Due p.now)) result
+            ≡ reads.asked self.now (reads.timing self.now) }
+    {
+        let test = Reached { reading: *self };
+        match self.object.state().find_want(WantKind::Timer, &test) {
+            None => None,
+            Some(want) => self.reached(want),
+        }
+    }
+
+    // The first pod that was noted as absent.
+    pub(crate) fn first_noted(&self) -> Option<(&Path, &Text)>
+        ensures { option_map (λ n. create n.0.now n.1.now) result
+            ≡ reads.asked self.now (reads.creating self.now) }
+    {
+        let test = Noted { reading: *self };
+        match self.object.state().find_want(WantKind::Pod, &test) {
+            None => None,
+            Some(want) => self.noted(want),
+        }
+    }
+
+    // The first that is to be saved and is not among the saves.
+    pub(crate) fn first_unsaved(
+        &self,
+        saves: &Cache,
+    ) -> Option<(&Path, &Text, &Text, &Outputs)>
+        ensures { option_map
+            (λ u. save u.1.now u.2.now (justified.key (reads.workflow self.now) u.0.now) u.3.now) result
+            ≡ reads.asked self.now (reads.saving self.now saves.now) }
+    {
+        let test = Unsaved {
+            reading: *self,
+            saves,
+        };
+        match self.object.state().find_want(WantKind::Save, &test) {
+            None => None,
+            Some(want) => self.unsaved(saves, want),
+        }
+    }
+
+    // The first suspended node that is resumed.
+    pub(crate) fn first_resumed(&self) -> Option<&Path>
+        ensures { option_map (λ p. record_fact (fact.Resumed p.now)) result
+            ≡ reads.first_node self.now (reads.resuming self.now) }
+    {
+        let test = Resumed { reading: *self };
+        match self.object.state().find_node(&test) {
+            None => None,
+            Some(node) => self.resumed(node),
+        }
+    }
+
+    // The first node that is over and holds its lock.
+    pub(crate) fn first_kept(&self) -> Option<(&LockId, &Path)>
+        ensures { option_map (λ k. release k.0.now (justified.key (reads.workflow self.now) k.1.now)) result
+            ≡ reads.first_node self.now (reads.releasing self.now) }
+    {
+        let test = Kept { reading: *self };
+        match self.object.state().find_node(&test) {
+            None => None,
+            Some(node) => self.kept(node),
+        }
+    }
+}
