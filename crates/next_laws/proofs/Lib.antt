@@ -25,3 +25,4 @@ pub mod RoundsEnd
 pub mod WorkedSchedule
 pub mod VersionsCounted
 pub mod RunsQuiet
+pub mod Pacing

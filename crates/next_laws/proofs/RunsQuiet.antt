@@ -265,7 +265,7 @@ module _ (D : Document) (h : Story) (valid : HasValidWorkflows D) (l : IsLawful 
       among_right workers runners (for_pod w name) (among_filter (λ (e : Event Content). created_by h e.entry) h.events m.by (for_pod w name) m.place
       (ap (created_by h) m.makes.is ∙ ap (if_unfinished (for_pod w name)) s ∙ unfinished))
 
-  was_still : StillRound D h
+  pub was_still : StillRound D h
   was_still = record {
     workers = λ w f s. let j = jobs_still D h h (jobs_of h) calls 0 ran refl refl (for_flow w) (has_worker w f s) in worker_of D h h (for_flow w) j.0 0 valid l j.1 refl refl w refl;
     runners = λ w name pod s u. let j = jobs_still D h h (jobs_of h) calls 0 ran refl refl (for_pod w name) (has_runner w name pod s u) in runner_of D h h (for_pod w name) j.0 0 j.1 refl refl w name pod refl s;

@@ -1,13 +1,16 @@
 -- Jobs, rounds and runs that nobody disturbs end.
-use Rattle.std.specs.Prelude.{◌≡◌, ℕ, ◌+◌, ◌*◌, ◌≤◌, List, length}
+use Rattle.std.specs.Prelude.{◌≡◌, ℕ, ◌+◌, ◌*◌, ◌≤◌, List, length, Some}
+use Rattle.history.specs.History.{grown}
 use Rattle.meaning.specs.Trees.{most_nodes}
 use Rattle.law.specs.Documents.{Document}
 use Rattle.law.specs.Contents.{Story}
 use Rattle.law.specs.Justified.{IsLawful}
-use Rattle.law.specs.Due.{IsQuiet}
+use Rattle.law.specs.Due.{IsQuiet, IsPaced}
 use Rattle.lawful.specs.Manifests.{HasValidWorkflows}
 use Rattle.next_step.specs.Hands.{Given}
-use Rattle.next_step.specs.Rounds.{JobRan, JobsRan, entries_in, RunRan}
+use Rattle.next_step.specs.Plays.{tick_event}
+use Rattle.next_step.specs.Ticks.{next_tick}
+use Rattle.next_step.specs.Rounds.{jobs_of, JobRan, JobsRan, entries_in, RunRan}
 use Rattle.next_laws.specs.Sizes.{most_calls}
 
 -- a whole job, the call that ends it too, in which so many entries come; so have these jobs one after the other
@@ -40,3 +43,15 @@ abbrev pub RunEndsQuiet : Type 0
 RunEndsQuiet =
     (D : Document) (h g : Story) (rounds faults : ℕ) → HasValidWorkflows D → IsLawful D h →
     RunRan D h rounds faults g → IsLawful D g × IsQuiet D g
+
+-- What a run keeps of the pace, from so many entries on: none of these is a tick; no job moves the clock; and after a round
+-- without an entry and without a fault it goes to the next tick.
+pub record RunsKeepPace : Type 0 where
+  pub begin : (D : Document) (h : Story) → IsPaced D (entries_in h) h
+  pub jobs :
+      (D : Document) (h g : Story) (jobs : List Given) (calls faults n : ℕ) → JobsRan D h jobs calls faults g →
+      IsPaced D n h → IsPaced D n g
+  pub tick :
+      (D : Document) (h : Story) (calls t n : ℕ) → HasValidWorkflows D → IsLawful D h →
+      JobsRan D h (jobs_of h) calls 0 h → next_tick D h ≡ Some t → IsPaced D n h →
+      IsPaced D n (grown h (tick_event t))

@@ -7,7 +7,7 @@ ghost use Rattle.next_laws.specs.NextTicks.{NextTickIsNext};
 ghost use Rattle.next_laws.specs.Jobs.{UndisturbedGoesWell, StillRoundIsIdle};
 ghost use Rattle.next_laws.specs.Sizes.{ReadsLeaveFewer, RefusalsLeaveFewer, CallsAreBounded, UndisturbedEnds};
 ghost use Rattle.next_laws.specs.Playing.{PlaysLawfully, StepIsPlayed};
-ghost use Rattle.next_laws.specs.Ends.{RoundsEnd, RunEndsQuiet};
+ghost use Rattle.next_laws.specs.Ends.{RoundsEnd, RunEndsQuiet, RunsKeepPace};
 ghost use Rattle.next_laws.specs.ReadsBack.{ReadsBack};
 
 /// What a worker does next, by views of a history, is justified wherever it can be accepted.
@@ -93,4 +93,9 @@ pub fn rounds_end()
 /// The end of a run is quiet.
 pub fn run_ends_quiet()
     ensures { RunEndsQuiet }
+{}
+
+/// A run is paced: the clock goes from an idle state to its next tick.
+pub fn runs_keep_pace()
+    ensures { RunsKeepPace }
 {}
