@@ -29,6 +29,9 @@ pub lines_kept : LinesAreMeant → (a : Inside) (w : Workflow) → IsKept a → 
 lines_kept law a w kept view t is =
     ap lines_of (is ∙ kept.tree.meant) ∙ law a.valid.value (answers a.facts) ∙ ap lines_by view
 
+pub valid_of : (a : Inside) (w : Workflow) → IsKept a → workflow_of a ≡ w → Valid w.manifest
+valid_of a w kept view = subst (λ (x : Workflow). Valid x.manifest) view kept.ready.valid
+
 -- ---- one of a list that is told apart is the first that passes
 
 among : {X : Type 0} (xs : List X) (x : X) (k : ℕ) → k < length xs → get_or xs k x ≡ x → Among x xs
