@@ -1,2 +1,2 @@
 mod Adding
-mod Finding
+mod Found

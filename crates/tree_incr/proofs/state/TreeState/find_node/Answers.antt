@@ -3,7 +3,7 @@ use Rattle.std.proofs.Common.{List, ap, ◌∙◌}
 use Rattle.std.specs.List.{find}
 use Rattle.meaning.specs.declared.lines.Line.{Line}
 use Rattle.meaning.specs.Trees.{nodes_in}
-use Rattle.tree_incr.proofs.Finding.{lines_kept}
+use Rattle.tree_incr.proofs.Found.{lines_kept}
 use Rattle.tree_incr.proofs.state.TreeState.find_node.Goals as goal
 
 pub returns : goal.returns

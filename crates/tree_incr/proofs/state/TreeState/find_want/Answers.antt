@@ -5,7 +5,7 @@ use Rattle.tree_types.specs.declared.want.Want.{Want}
 use Rattle.meaning.specs.declared.lines.Line.{Line}
 use Rattle.meaning.specs.Trees.{wants_in}
 use Rattle.tree_state.specs.Finding.{passes}
-use Rattle.tree_incr.proofs.Finding.{lines_kept}
+use Rattle.tree_incr.proofs.Found.{lines_kept}
 use Rattle.tree_incr.proofs.state.TreeState.find_want.Goals as goal
 
 pub returns : goal.returns

@@ -3,7 +3,7 @@ use Rattle.std.proofs.Common.{List, ap, ◌∙◌}
 use Rattle.meaning.specs.declared.lines.Line.{Line}
 use Rattle.meaning.specs.Trees.{wants_in}
 use Rattle.tree_state.specs.Finding.{next_tick}
-use Rattle.tree_incr.proofs.Finding.{lines_kept}
+use Rattle.tree_incr.proofs.Found.{lines_kept}
 use Rattle.tree_incr.proofs.state.TreeState.next_timer.Goals as goal
 
 pub returns : goal.returns
