@@ -1,9 +1,10 @@
 //! What the entrypoint makes, and the exit handler.
 
-ghost use Rattle.std.specs.Prelude.{◌≡◌, IfOk, OnOk, option_copied, length};
+ghost use Rattle.std.specs.Prelude.{◌≡◌, IfOk, IfSome, OnOk, option_copied, length};
 ghost use Rattle.std.specs.List.{find};
 ghost use Rattle.meaning.specs.Trees.{nodes_in, wants_in, beginnings_in};
 ghost use Rattle.tree_state.specs.Asking.{is_of, first};
+ghost use Rattle.tree_state.specs.Finding.{passes, next_tick, IsFound};
 ghost use Rattle.scopes.specs.Values.{HasValuesOf};
 ghost use Rattle.meaning.specs.Trees as trees;
 ghost use Rattle.wf_manifest.specs.Valid.{Valid};
@@ -19,8 +20,10 @@ use hooks_exit::workflow_phase;
 use recorded::Recorded;
 use scopes::Scope;
 use std::alloc::Global;
-use tree_state::{Room, State, Told, TreeRefused, WantKind, counts_nodes};
-use tree_types::{Path, Phase, Want};
+use tree_state::{
+    Clue, NodeTest, Room, State, Told, TreeRefused, WantKind, WantTest, counts_nodes, sooner,
+};
+use tree_types::{Node, Path, Phase, Want};
 use tree_walk::{Positions, positions_of, top_state};
 use wf_manifest::Manifest;
 

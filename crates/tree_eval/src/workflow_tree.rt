@@ -1,10 +1,11 @@
 //! The tree of a workflow, kept as it was made.
 
-ghost use Rattle.std.specs.Prelude.{◌≡◌, ◌≢◌, Err, IfOk, length, option_copied};
+ghost use Rattle.std.specs.Prelude.{◌≡◌, ◌≢◌, Err, IfOk, IfSome, length, option_copied};
 ghost use Rattle.std.specs.List.{find};
 ghost use Rattle.meaning.specs.Trees.{nodes_in, wants_in, beginnings_in};
 ghost use Rattle.tree_state.specs.declared.refused.TreeRefused.TheVariants as refused;
 ghost use Rattle.tree_state.specs.Asking.{is_of, first};
+ghost use Rattle.tree_state.specs.Finding.{passes, next_tick, IsFound};
 ghost use Rattle.wf_manifest.specs.Valid.{Valid};
 ghost use Rattle.tree_walk.specs.Index.{IsReady};
 ghost use Rattle.tree_eval.specs.After.{Follows};
@@ -19,8 +20,8 @@ use base_types::limits::MOST_NODES;
 use std::alloc::Global;
 use std::marker::Model;
 use tree_change::{changed_top, split};
-use tree_state::{State, WantKind};
-use tree_types::{Note, Path, Phase, Sel, Want, Wants};
+use tree_state::{Clue, NodeTest, State, WantKind, WantTest};
+use tree_types::{Node, Note, Path, Phase, Sel, Want, Wants};
 use tree_walk::Positions;
 use wf_manifest::Manifest;
 
