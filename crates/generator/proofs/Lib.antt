@@ -1,1 +1,2 @@
 mod OneDraw
+mod Printed

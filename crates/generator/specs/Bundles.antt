@@ -3,6 +3,7 @@
 use Rattle.std.specs.Prelude.{ℕ, ◌+◌, ◌/◌, ◌%◌, List, [], ◌∷◌, ◌++◌, if◌then◌else◌, false, map, flat_map, codes, decimal}
 use Rattle.serde_json.specs.Data.{Data, boolean, string, array, object, Members, no_members, member}
 use Rattle.serde_json.specs.View.{items_of}
+use Rattle.serde_json.specs.Written.{compact_text}
 use Rattle.generator.specs.declared.draws.Shape.{Shape}
 use Rattle.generator.specs.declared.draws.Shape.TheVariants.{Pod, Steps, Dag, Loop}
 use Rattle.generator.specs.declared.draws.Drawn.{Drawn}
@@ -145,3 +146,7 @@ bundle_of ds = document (map workflow ds ++ outcomes (flat_map pods_of ds) ∷ [
 -- the document of so many workflows, by a seed
 abbrev pub bundle : ℕ → ℕ → Data
 bundle seed size = bundle_of (drawn seed 0 size)
+
+-- its text, without spaces
+unfoldable pub bundle_text : ℕ → ℕ → List ℕ
+bundle_text seed size = compact_text (bundle seed size)

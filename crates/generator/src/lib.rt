@@ -8,5 +8,5 @@ mod outcomes;
 mod templates;
 mod workflows;
 
-pub use bundle::make_bundle;
+pub use bundle::{make_bundle, print_bundle};
 pub use draws::{Drawn, Shape};
