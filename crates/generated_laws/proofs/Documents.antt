@@ -1,5 +1,5 @@
 -- The document that a seed makes.
-use Rattle.std.proofs.Common.{◌≡◌, ℕ, zero, suc, ◌+◌, ◌/◌, ◌%◌, ◌<◌, ◌≤◌, ◌^◌, ◌==◌, Bool, true, false, List, [], ◌∷◌, ◌++◌, length, Ok, refl, ap, sym, ◌∙◌, arith, map, if◌then◌else◌, nat_lt, length-append, add-one}
+use Rattle.std.proofs.Common.{◌≡◌, ℕ, zero, suc, ◌+◌, ◌/◌, ◌%◌, ◌≤◌, ◌==◌, Bool, true, false, List, [], ◌∷◌, ◌++◌, length, Ok, refl, ap, ◌∙◌, arith, map, if◌then◌else◌, length-append, add-one}
 use Rattle.std.specs.Prelude.{flat_map}
 use Rattle.std.proofs.lemmas.Bool.{le-ltb}
 use Rattle.std.specs.List.{AllByRecursion}
@@ -21,9 +21,9 @@ use Rattle.generator.specs.declared.draws.Shape.{Shape}
 use Rattle.generator.specs.declared.draws.Shape.TheVariants.{Pod, Steps, Dag, Loop as Looped}
 use Rattle.generator.specs.declared.draws.Drawn.{Drawn}
 use Rattle.generator.specs.Draws.{next, number, shape_of, drawn_by, drawn}
-use Rattle.generator.specs.Bundles.{name, workflow, pods_of, outcomes, document, bundle_of, bundle}
+use Rattle.generator.specs.Bundles.{name, workflow, pods_of, outcomes, document, bundle_of}
 use Rattle.generated_laws.specs.Generated.{AreDocuments, names_drawn}
-use Rattle.generated_laws.proofs.Said.{planned, plan, plan_of, said, all_said, IsShort, AreFrom}
+use Rattle.generated_laws.proofs.Said.{planned, plan_of, all_said, IsShort, AreFrom}
 use Rattle.generated_laws.proofs.Read.{read_drawn, read_pods, read_outcomes}
 use Rattle.generated_laws.proofs.Verdicts.{PassedIsValid, valid_shape}
 use Rattle.generated_laws.proofs.Whole.{counted, named, scheduled, checked, said_once}
@@ -37,7 +37,7 @@ short_if false x y h k = k
 short : (v : ℕ) → IsShort (shape_of v)
 short v =
     short_if (v % 4 == 0) Pod _ tt (
-      short_if (v % 4 == 1) Steps _ tt (short_if (v % 4 == 2) Dag (Looped (1 + v / 32 % 20)) tt (omega arith))
+    short_if (v % 4 == 1) Steps _ tt (short_if (v % 4 == 2) Dag (Looped (1 + v / 32 % 20)) tt (omega arith))
     )
 
 drawn_from : (n s i last : ℕ) → i + n ≡ last → AreFrom i last (drawn s i n)

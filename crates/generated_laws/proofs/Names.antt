@@ -1,5 +1,5 @@
 -- The names of what is drawn: they are of their grammar, and differ.
-use Rattle.std.proofs.Common.{◌≡◌, ℕ, ◌+◌, ◌*◌, ◌/◌, ◌%◌, ◌<◌, Bool, true, false, List, [], ◌∷◌, ◌++◌, Some, refl, ap, sym, ◌∙◌, arith, bytes_eq}
+use Rattle.std.proofs.Common.{◌≡◌, ℕ, ◌+◌, ◌*◌, ◌/◌, ◌%◌, ◌<◌, Bool, true, false, List, Some, refl, arith, bytes_eq}
 use Rattle.std.proofs.lemmas.Bool.Decides.{nat_tests}
 use Rattle.std.proofs.lemmas.Slice.Eq.{bytes_eq-Decides}
 use Rattle.template_reader.specs.Names.{is_resource_byte, resource_name}
@@ -13,7 +13,6 @@ unfolding name
 name_fits n = rw (digit_fits (n / 10000), digit_fits (n / 1000), digit_fits (n / 100), digit_fits (n / 10), digit_fits n) refl
 
 -- ---- names differ
-
 
 value : (n : ℕ) → n < 100000 → n ≡ 10000 * (n / 10000 % 10) + 1000 * (n / 1000 % 10) + 100 * (n / 100 % 10) + 10 * (n / 10 % 10) + n % 10
 value n h =

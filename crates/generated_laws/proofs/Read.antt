@@ -1,12 +1,12 @@
 -- What the items that are made read as.
-use Rattle.std.proofs.Common.{◌≡◌, ℕ, suc, ◌+◌, Bool, true, false, List, [], ◌∷◌, ◌++◌, Some, Ok, string_bytes, codes, refl, ap, sym, ◌∙◌, if◌then◌else◌, decimal, map}
+use Rattle.std.proofs.Common.{◌≡◌, ℕ, suc, Bool, true, false, List, [], ◌∷◌, ◌++◌, Some, Ok, codes, refl, if◌then◌else◌}
 use Rattle.std.specs.Prelude.{flat_map}
 use Rattle.serde_json.specs.Data.{Data}
 use Rattle.serde_json.specs.View.{items_of}
 use Rattle.json_fields.specs.Paths.{Path}
 use Rattle.field_kinds.specs.Kinds.{object_of, members}
 use Rattle.template_reader.specs.Names.{resource_name}
-use Rattle.call_reader.specs.Calls.{argument_fields, arguments_fields, sequence_fields, list_loop, loop_said, hook_fields, hooks_fields, exit_hook, continue_fields, head_fields, tail_fields, step_fields, task_fields, dag_fields}
+use Rattle.call_reader.specs.Calls.{sequence_fields, list_loop, loop_said, exit_hook, head_fields, tail_fields, step_fields, task_fields, dag_fields}
 use Rattle.template_reader.specs.Templates.{body_in, template_refused, head_fields as template_head_fields, tail_fields as template_tail_fields, template_fields}
 use Rattle.wf_reader.specs.Workflows.{metadata_fields, spec_refused, head_fields as wf_head_fields, spec_fields, workflow_fields}
 use Rattle.item_reader.specs.Items.{item}

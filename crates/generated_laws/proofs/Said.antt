@@ -1,5 +1,5 @@
 -- What a drawn workflow says: its manifest, and what is planned for its pods.
-use Rattle.std.proofs.Common.{◌≡◌, ℕ, ◌+◌, ◌<◌, ◌^◌, Bool, List, [], ◌∷◌, ◌++◌, Option, Some, None, pos, false, codes, decimal, map, if◌then◌else◌}
+use Rattle.std.proofs.Common.{◌≡◌, ℕ, ◌+◌, ◌<◌, ◌^◌, List, [], ◌∷◌, ◌++◌, Option, Some, None, pos, false, codes, decimal, map, if◌then◌else◌}
 use Rattle.std.specs.Prelude.{flat_map}
 use Rattle.tag_text.specs.declared.part.Part.{Part}
 use Rattle.tag_text.specs.Parts.{as_it_stands}

@@ -1,12 +1,11 @@
 -- What is asked of the document as a whole.
-use Rattle.std.proofs.Common.{◌≡◌, ℕ, zero, suc, ◌+◌, ◌<◌, ◌≤◌, Bool, true, false, ◌||◌, ◌&&◌, List, [], ◌∷◌, ◌++◌, length, drop, Ok, refl, ap, sym, ◌∙◌, arith, map, bytes_eq, if◌then◌else◌, add-one}
+use Rattle.std.proofs.Common.{◌≡◌, ℕ, suc, ◌+◌, ◌<◌, ◌≤◌, Bool, true, false, List, [], ◌∷◌, ◌++◌, length, drop, Ok, refl, ap, ◌∙◌, arith, if◌then◌else◌}
 use Rattle.std.specs.Prelude.{flat_map}
 use Rattle.std.specs.List.{list_any}
 use Rattle.std.proofs.lemmas.List.{append-nil}
 use Rattle.std.proofs.lemmas.List.Folds.{list_any-append}
 use Rattle.std.proofs.Math.ListN.{drop_of_length-le}
 use Rattle.base_types.specs.Limits.{most_workflows}
-use Rattle.tree_types.specs.declared.entry.Limit.{Limit}
 use Rattle.item_reader.specs.declared.outcomes.PlannedPod.{PlannedPod}
 use Rattle.item_reader.specs.declared.outcomes.Plan.{Plan}
 use Rattle.item_reader.specs.declared.items.Item.TheVariants as item_of
@@ -15,7 +14,6 @@ use Rattle.bundle_rules.specs.declared.claims.Claim.TheVariants as claim
 use Rattle.bundle_rules.specs.declared.claims.Spot.{Spot}
 use Rattle.bundle_rules.specs.Claims.{same_claim, pod_spots, spots, first_second, seconds_asked}
 use Rattle.bundle_rules.specs.Counts.{workflow_spots, made_spots, workflows_counted, none_over}
-use Rattle.bundle_rules.specs.LockLimits.{limits_from}
 use Rattle.bundle_rules.specs.Names.{first_broken, items_asked, names_asked}
 use Rattle.bundle_rules.specs.Schedules.{schedules_in, schedules_asked}
 use Rattle.wf_bundle.specs.Documents.{items_checked}
@@ -24,7 +22,7 @@ use Rattle.generator.specs.declared.draws.Shape.{Shape}
 use Rattle.generator.specs.declared.draws.Drawn.{Drawn}
 use Rattle.generator.specs.Bundles.{name}
 use Rattle.generated_laws.proofs.Names.{names_apart}
-use Rattle.generated_laws.proofs.Said.{body_of, manifest, failing, planned, plan, said, all_said, AreFrom}
+use Rattle.generated_laws.proofs.Said.{failing, planned, plan, all_said, AreFrom}
 use Rattle.generated_laws.proofs.Verdicts.{passes}
 
 -- ---- counts
@@ -122,9 +120,9 @@ pods_differ (d ∷ ds) i last at k before from few c =
     let here : d.position ≡ i = from.0 in
     let below = at_most d ds i last from in
     rw here (
-      pods_if d.fails i last at k d.shape (flat_map planned ds) before (omega arith) c (
-        λ more j clear. pods_differ ds (i + 1) last at j more from.2 few clear
-      )
+    pods_if d.fails i last at k d.shape (flat_map planned ds) before (omega arith) c (
+    λ more j clear. pods_differ ds (i + 1) last at j more from.2 few clear
+    )
     )
 
 all_differ : (ds : List Drawn) (i last at : ℕ) (before : List Claim) (pods : List PlannedPod) → AreFrom i last ds → last ≤ 100000 → Clear before i
