@@ -1,0 +1,7 @@
+mod Names
+mod Texts
+mod Said
+mod Read
+mod Verdicts
+mod Whole
+mod Documents

@@ -1,0 +1,4 @@
+//! The law of the documents that are made by a number: they are documents.
+#![tactic(auto)]
+
+pub mod laws;

@@ -1,0 +1,2 @@
+mod OneDraw
+mod Printed

@@ -1,0 +1,2 @@
+-- What speaks only of this crate's private code.
+pub mod Made
