@@ -1,0 +1,4 @@
+mod Renaming
+mod Bounds
+mod Ways
+mod Unstarted
