@@ -5,7 +5,6 @@ pub mod ContentCode
 pub mod Inside
 pub use Rattle.history.specs.History
 pub use Rattle.law.specs.Contents
-pub use Rattle.law.specs.Documents
 pub use Rattle.law.specs.Due
 pub use Rattle.law.specs.Justified
 pub use Rattle.meaning.specs.Answers

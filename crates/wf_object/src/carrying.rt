@@ -1,7 +1,7 @@
 //! What a resubmission carries over.
 
-ghost use Rattle.std.specs.Prelude.{◌≡◌, IfOk, option_map};
-ghost use Rattle.meaning.specs.Answers.{outcome_at};
+ghost use Rattle.std.specs.Prelude.{◌≡◌, IfOk};
+ghost use Rattle.std.specs.List.{filter_map};
 ghost use Rattle.recorded.specs.Ends as ends;
 ghost use Rattle.law.specs.Contents.{flow};
 ghost use Rattle.law.specs.Justified as law;
@@ -69,19 +69,29 @@ fn carried_by(facts: &SharedFacts, node: &Node) -> Result<Option<Fact>, Memory>
     }
 }
 
+// What these nodes carry over.
+fn carried_in(state: &TreeState, nodes: &[Node]) -> Result<Facts, Memory>
+    ensures { IfOk result
+        (λ facts. facts ≡ filter_map (law.carried_by state.now.facts) nodes.now) }
+{
+    let mut facts = Facts::new(state.manifest().name.allocator());
+    for node in nodes {
+        if let Some(fact) = carried_by(state.facts(), node)? {
+            facts.push(fact)?;
+        }
+    }
+    Ok(facts)
+}
+
 /// What a resubmission carries over, in tree order; without `memoized` nothing.
 pub fn carried(state: &TreeState, memoized: bool) -> Result<Facts, Memory>
     ensures { IfOk result
         (λ facts. facts ≡ law.carried_facts memoized (flow state.now.manifest state.now.facts)) }
 {
-    let mut facts = Facts::new(state.manifest().name.allocator());
     if memoized {
         let told = state.tell()?;
-        for node in told.tree.nodes.iter() {
-            if let Some(fact) = carried_by(state.facts(), node)? {
-                facts.push(fact)?;
-            }
-        }
+        carried_in(state, told.tree.nodes.as_slice())
+    } else {
+        Ok(Facts::new(state.manifest().name.allocator()))
     }
-    Ok(facts)
 }

@@ -10,12 +10,12 @@ use tree_incr::{TreeRefused, TreeState};
 use tree_types::{Fact, Facts};
 
 /// The workflow once the tasks that may begin have begun, one after the other, with their beginnings behind these facts.
-pub fn close(state: TreeState, facts: Facts) -> Result<(TreeState, Facts), TreeRefused>
-    requires { Fits state }
-    ensures { CloseGives state facts result }
+pub fn close(from: TreeState, told: Facts) -> Result<(TreeState, Facts), TreeRefused>
+    requires { Fits from }
+    ensures { CloseGives from told result }
 {
-    let mut state = state;
-    let mut facts = facts;
+    let mut state = from;
+    let mut facts = told;
     // So many facts no memory holds. That of a lawful journal is closed, or its tree too large, after 10,001 beginnings is
     // a law of growth.
     for _ in 0..u64::MAX {
@@ -30,21 +30,22 @@ pub fn close(state: TreeState, facts: Facts) -> Result<(TreeState, Facts), TreeR
 }
 
 /// The workflow with these facts behind its own.
-pub fn with_facts(state: &TreeState, facts: &Facts) -> Result<TreeState, TreeRefused>
+pub fn with_facts(from: &TreeState, facts: &[Fact]) -> Result<TreeState, TreeRefused>
     ensures added { IfOk result
-        (λ next. next ≡ record { manifest = state.now.manifest; facts = state.now.facts ++ facts.now }) }
+        (λ next. next ≡ record { manifest = from.now.manifest; facts = from.now.facts ++ facts.now }) }
     ensures large { result ≡ Err TreeRefused.TooLarge
-        → TooLargeIn state.now.manifest state.now.facts facts.now }
+        → TooLargeIn from.now.manifest from.now.facts facts.now }
 {
-    let mut next = state.copy()?;
-    for fact in facts.iter() {
-        next = next.add(fact.copy()?)?;
+    let mut state = from.copy()?;
+    for fact in facts {
+        state = state.add(fact.copy()?)?;
     }
-    Ok(next)
+    Ok(state)
 }
 
 /// The workflow of which nothing is recorded with what is carried over. Its tree is its root alone.
-pub fn with_carried(state: &TreeState, facts: &Facts) -> Result<TreeState, Memory>
+#[tactic(auto, using(crate::proofs::Unstarted::never_large))]
+pub fn with_carried(state: &TreeState, facts: &[Fact]) -> Result<TreeState, Memory>
     requires nothing { state.now.facts ≡ [] }
     requires unstarted { knows facts.now Started ≡ false }
     ensures { IfOk result

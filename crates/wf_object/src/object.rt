@@ -62,6 +62,7 @@ impl WfObject {
 
     /// What a resubmission makes of the workflow, and the facts that it carries over: the manifest under another name and
     /// another creation, and if it is memoized, the outcomes of the pods that Succeeded.
+    #[tactic(auto, using(crate::proofs::Renaming::valid_renamed, crate::proofs::Unstarted::carried_unstarted))]
     pub fn resubmitted(
         &self,
         name: Text,
@@ -74,7 +75,7 @@ impl WfObject {
     {
         let facts = carried(&self.state, memoized)?;
         let object = WfObject::new(self.valid.renamed(name, created)?)?;
-        let state = with_carried(&object.state, &facts)?;
+        let state = with_carried(&object.state, facts.as_slice())?;
         Ok((object.over(state)?, facts))
     }
 
@@ -97,7 +98,7 @@ impl WfObject {
         ensures { IfOk result (λ object. object
             ≡ flow self.now.manifest (self.now.journal ++ facts.now)) }
     {
-        let state = with_facts(&self.state, facts)?;
+        let state = with_facts(&self.state, facts.as_slice())?;
         Ok(self.over(state)?)
     }
 
