@@ -1,16 +1,18 @@
 -- The steps of the loop that closes a journal.
-use Rattle.std.proofs.Common.{◌≡◌, ◌<◌, ◌++◌, [], ◌∷◌, length, Some, None, Ok, Err, refl, sym, ap, ◌∙◌, subst, append_assoc, append-nil}
+use Rattle.std.proofs.Common.{◌≡◌, ◌<◌, ◌++◌, [], ◌∷◌, length, Some, None, Result, Ok, Err, refl, sym, ap, ◌∙◌, subst, append_assoc, append-nil}
 use Rattle.tree_types.specs.declared.path.Path.{Path}
 use Rattle.tree_types.specs.declared.fact.Fact.TheVariants.{Begun}
 use Rattle.wf_manifest.specs.declared.manifest.Manifest.{Manifest}
 use Rattle.meaning.specs.Answers.{Facts}
 use Rattle.meaning.specs.Trees.{tree, beginnings, begin_at, most_nodes}
 use Rattle.tree_state.specs.Asking.{first}
-use Rattle.tree_state.specs.declared.refused.TreeRefused.TheVariants.{TooLarge}
+use Rattle.tree_state.specs.declared.refused.TreeRefused.{TreeRefused}
+use Rattle.std.specs.Prelude.{IsErrAnd}
+use Rattle.tree_state.specs.declared.refused.TreeRefused.TheVariants.{TooLarge, Memory}
 use Rattle.tree_incr.specs.Workflows.{Workflow, with_fact, added}
 use Rattle.law.specs.Due.{OnTheWay, here}
-use Rattle.wf_object.specs.Inside.Closing.{Fits, Began, Closed, Passes}
-use Rattle.wf_object.proofs.Bounds.{added_is, added_fits, added_past}
+use Rattle.wf_object.specs.Inside.Closing.{Fits, Began, Closed, Passes, CloseGives}
+use Rattle.wf_object.proofs.Bounds.{past_given, added_is, added_fits, added_past}
 use Rattle.wf_object.proofs.Ways.{none_first, way_first, way_closes}
 
 pub began_first : (from : Workflow) (told : Facts) → Fits from → Began from from told told
@@ -59,3 +61,9 @@ module _ (from to : Workflow) (told now : Facts) (b : Began from to told now) wh
       way = goes_on;
       large = subst (λ (m : Manifest). most_nodes < length (tree m (begin_at to.facts p))) b.manifest (added_past to (Begun p) given);
     }
+
+    -- so the loop answers where the fact is not added
+    pub began_err : (e : TreeRefused) → ((◌≡◌ {A = Result Workflow TreeRefused} (Err e) (Err Memory) → ⊥) → Err e ≡ added to (Begun p)) → (r : Result (Workflow × Facts) TreeRefused) → IsErrAnd r (λ z. z ≡ e) → CloseGives from told r
+    began_err e given (Ok x) is = absurd is
+    began_err e given (Err TooLarge) is = began_past (past_given e (added to (Begun p)) (sym is) given)
+    began_err e given (Err Memory) is = tt

@@ -1,10 +1,11 @@
 -- What an added fact makes of a workflow, and where its tree is too large.
-use Rattle.std.proofs.Common.{◌≡◌, ℕ, ◌<◌, ◌≤◌, ◌++◌, Bool, true, false, cond, [], ◌∷◌, length, Ok, Err, refl, sym, subst, arith}
-use Rattle.std.specs.Prelude.{nat_le}
+use Rattle.std.proofs.Common.{◌≡◌, ℕ, ◌<◌, ◌≤◌, ◌++◌, Bool, true, false, cond, [], ◌∷◌, length, Result, Ok, Err, refl, sym, ap, ◌∙◌, subst, arith}
+use Rattle.std.specs.Prelude.{nat_le, IsErrAnd}
 use Rattle.std.proofs.lemmas.Bool.Decides.{nat_tests}
 use Rattle.tree_types.specs.declared.fact.Fact.{Fact}
 use Rattle.meaning.specs.Trees.{tree, most_nodes}
-use Rattle.tree_state.specs.declared.refused.TreeRefused.TheVariants.{TooLarge}
+use Rattle.tree_state.specs.declared.refused.TreeRefused.{TreeRefused}
+use Rattle.tree_state.specs.declared.refused.TreeRefused.TheVariants.{TooLarge, Memory}
 use Rattle.tree_incr.specs.Workflows.{Workflow, with_fact, added}
 use Rattle.wf_object.specs.Inside.Closing.{Fits}
 
@@ -15,6 +16,19 @@ is_within false t w e = absurd (cc)
 is_past : {A : Type 0} (b : Bool) (w : A) → Err TooLarge ≡ cond b (Ok w) (Err TooLarge) → b ≡ false
 is_past true w e = absurd (cc)
 is_past false w e = refl
+
+-- want of memory alone is free
+pub told : {A : Type 0} (t : A) → ◌≡◌ {A = Result A TreeRefused} (Ok t) (Err Memory) → ⊥
+told t h = cc
+
+pub past_given : {A : Type 0} (e : TreeRefused) (r : Result A TreeRefused) → e ≡ TooLarge → ((◌≡◌ {A = Result A TreeRefused} (Err e) (Err Memory) → ⊥) → Err e ≡ r) → Err TooLarge ≡ r
+past_given {A} e r is given =
+    let not_memory : ◌≡◌ {A = Result A TreeRefused} (Err e) (Err Memory) → ⊥ = λ h. cc in
+    ap (λ (x : TreeRefused). Err x) (sym is) ∙ given not_memory
+
+pub error_is : {A : Type 0} (r : Result A TreeRefused) (e : TreeRefused) → IsErrAnd r (λ z. z ≡ e) → r ≡ Err TooLarge → e ≡ TooLarge
+error_is (Ok x) e is h = absurd is
+error_is (Err z) e is h = cc
 
 at_most : (n : ℕ) → nat_le n most_nodes ≡ true → n ≤ most_nodes
 at_most n h = grind (arith, nat_tests)

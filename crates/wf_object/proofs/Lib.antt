@@ -2,4 +2,7 @@ mod Renaming
 mod Bounds
 mod Ways
 mod Began
+mod Fronts
+mod Adds
+mod Carried
 mod Unstarted
