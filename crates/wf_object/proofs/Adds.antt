@@ -1,5 +1,5 @@
 -- What is answered where a fact is added.
-use Rattle.std.proofs.Common.{◌≡◌, ◌<◌, ◌≤◌, ◌++◌, false, [], ◌∷◌, length, Result, Ok, Err, refl, sym, ap, ◌∙◌, subst, append_assoc}
+use Rattle.std.proofs.Common.{◌≡◌, ◌≤◌, ◌++◌, false, [], ◌∷◌, length, Result, Ok, Err, sym, ap, ◌∙◌, subst, append_assoc}
 use Rattle.std.specs.Prelude.{IsErrAnd}
 use Rattle.tree_types.specs.declared.fact.Fact.{Fact}
 use Rattle.tree_types.specs.Journals.{knows}
@@ -76,6 +76,7 @@ module _ (f : Flow) (w : Workflow) (seen : flow_of w ≡ f) (x : Fact) where
 
       pub close_ok : knows f.journal x ≡ false → (o : Flow) → o ≡ flow t.manifest t.facts → Adds f x facts × (o ≡ flow f.manifest (f.journal ++ facts))
       close_ok new o is =
-          let known : knows w.facts x ≡ false = ap (λ (g : Flow). knows g.journal x) seen ∙ new in
-          (subst (λ (g : Flow). Adds g x facts) seen (adds w x s (added_is w x s given) t facts behind known),
-           is ∙ flow_after w x s (added_is w x s given) t facts behind ∙ ap (λ (g : Flow). flow g.manifest (g.journal ++ facts)) seen)
+          let known : knows w.facts x ≡ false = ap (λ (g : Flow). knows g.journal x) seen ∙ new in (
+            subst (λ (g : Flow). Adds g x facts) seen (adds w x s (added_is w x s given) t facts behind known),
+            is ∙ flow_after w x s (added_is w x s given) t facts behind ∙ ap (λ (g : Flow). flow g.manifest (g.journal ++ facts)) seen,
+          )

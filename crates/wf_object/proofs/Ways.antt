@@ -1,5 +1,5 @@
 -- The way from a journal to its closure.
-use Rattle.std.proofs.Common.{◌≡◌, List, [], ◌∷◌, Option, Some, None, refl, ◌++◌, append_assoc, ap, ◌∙◌, sym}
+use Rattle.std.proofs.Common.{◌≡◌, List, [], ◌∷◌, Some, None, refl, ap, ◌∙◌, sym}
 use Rattle.tree_types.specs.declared.path.Path.{Path}
 use Rattle.wf_manifest.specs.declared.manifest.Manifest.{Manifest}
 use Rattle.meaning.specs.Answers.{Facts}

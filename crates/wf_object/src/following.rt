@@ -74,7 +74,13 @@ pub fn caches_after(cache: &Cache, change: &Entry) -> Result<WfContent, Memory>
             tick,
         } => {
             let mut next = cache.copy()?;
-            match next.save(name.copy()?, key.copy()?, writer.copy()?, outputs.copy()?, *tick) {
+            match next.save(
+                name.copy()?,
+                key.copy()?,
+                writer.copy()?,
+                outputs.copy()?,
+                *tick,
+            ) {
                 Ok(()) => Ok(WfContent::of_caches(next)),
                 Err(_) => Err(Memory),
             }

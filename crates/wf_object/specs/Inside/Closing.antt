@@ -1,6 +1,5 @@
 -- How a journal is closed, beginning by beginning.
-use Rattle.std.specs.Prelude.{◌≡◌, ◌≤◌, ◌<◌, List, ◌++◌, length, Result, Ok, Err}
-use Rattle.tree_types.specs.declared.fact.Fact.{Fact}
+use Rattle.std.specs.Prelude.{◌≡◌, ◌≤◌, ◌<◌, ◌++◌, length, Result, Ok, Err}
 use Rattle.wf_manifest.specs.declared.manifest.Manifest.{Manifest}
 use Rattle.meaning.specs.Answers.{Facts}
 use Rattle.meaning.specs.Trees.{tree, most_nodes, Closes}

@@ -1,5 +1,5 @@
 -- The fact is added, and then the journal is closed.
-use Rattle.std.proofs.Common.{◌++◌, [], ◌∷◌, ap, ap₂, ◌∙◌}
+use Rattle.std.proofs.Common.{◌++◌, [], ◌∷◌, ap₂, ◌∙◌}
 use Rattle.tree_types.specs.declared.fact.Fact.{Fact}
 use Rattle.meaning.specs.Answers.{Facts}
 use Rattle.wf_object.proofs.Bounds.{told, added_fits}

@@ -3,7 +3,6 @@ use Rattle.std.proofs.Common.{ℤ, w64, ap, ap₂, sym, subst, ◌∙◌}
 use Rattle.std.proofs.Math.Facts.{to_z-of_z}
 use Rattle.wf_manifest.specs.declared.manifest.Manifest.{Manifest}
 use Rattle.wf_manifest.specs.Valid.{Valid}
-use Rattle.meaning.specs.Answers.{Facts}
 use Rattle.tree_incr.specs.Workflows.{Workflow}
 use Rattle.law.specs.Contents.{Flow, flow}
 use Rattle.law.specs.Justified.{renamed}
@@ -18,5 +17,5 @@ new-requires c =
 pub returns-clause-object : goal.returns-clause-object
 returns-clause-object c =
     let kept = c.deref.ensures ∙ c.self.invariant.same ∙ ap (λ (f : Flow). f.manifest) c.self.view_is in
-    let made = ap (λ (f : Flow). f.manifest) (c.object.view_is ∙ c.in_ok-object.ensures) ∙ c.in_ok-renamed.ensures ∙ ap₂ (λ (m : Manifest) (z : ℤ). renamed m c.args.name z) kept (to_z-of_z {w = w64} {z = c.args.created} c.ranges.created.sfits) in
+    let made = ap (λ (f : Flow). f.manifest) (c.object.view_is ∙ c.in_ok-object.ensures) ∙ c.in_ok-renamed.ensures ∙ ap₂ (λ (m : Manifest) (z : ℤ). renamed m c.args.name z) kept (to_z-of_z {w = w64} {z = c.args.created} c.ranges.created) in
     c.in_ok-over.ensures ∙ ap (λ (w : Workflow). flow w.manifest w.facts) c.in_ok-state.ensures ∙ ap₂ flow made c.as_slice.ensures
