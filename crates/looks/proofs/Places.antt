@@ -39,22 +39,22 @@ module _ {T : Type 0} where
       Placed (l ∷ ls) name
   looked l ls name true e rest =
       at
-        (length ls)
-        l
-        (ap (λ b. cond b (Some (length ls)) (place_in ls name)) e)
-        (ap (λ b. cond b (Some l) (find (is_named name) ls)) e)
-        (ap (λ xs. slice_get xs (length ls)) (reverse_onto ls l []) ∙ ap (slice_get (reverse ls ++ l ∷ [])) (sym (length-reverse ls)) ∙ behind (reverse ls) l)
+      (length ls)
+      l
+      (ap (λ b. cond b (Some (length ls)) (place_in ls name)) e)
+      (ap (λ b. cond b (Some l) (find (is_named name) ls)) e)
+      (ap (λ xs. slice_get xs (length ls)) (reverse_onto ls l []) ∙ ap (slice_get (reverse ls ++ l ∷ [])) (sym (length-reverse ls)) ∙ behind (reverse ls) l)
   looked l ls name false e (none place found) =
       none
-        (ap (λ b. cond b (Some (length ls)) (place_in ls name)) e ∙ place)
-        (ap (λ b. cond b (Some l) (find (is_named name) ls)) e ∙ found)
+      (ap (λ b. cond b (Some (length ls)) (place_in ls name)) e ∙ place)
+      (ap (λ b. cond b (Some l) (find (is_named name) ls)) e ∙ found)
   looked l ls name false e (at i m place found stands) =
       at
-        i
-        m
-        (ap (λ b. cond b (Some (length ls)) (place_in ls name)) e ∙ place)
-        (ap (λ b. cond b (Some l) (find (is_named name) ls)) e ∙ found)
-        (ap (λ xs. slice_get xs i) (reverse_onto ls l []) ∙ front (reverse ls) (l ∷ []) i m stands)
+      i
+      m
+      (ap (λ b. cond b (Some (length ls)) (place_in ls name)) e ∙ place)
+      (ap (λ b. cond b (Some l) (find (is_named name) ls)) e ∙ found)
+      (ap (λ xs. slice_get xs i) (reverse_onto ls l []) ∙ front (reverse ls) (l ∷ []) i m stands)
 
   placed : (ls : List (Look T)) (name : List ℕ) → Placed ls name
   placed [] name = none refl refl
