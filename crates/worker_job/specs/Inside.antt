@@ -1,5 +1,5 @@
 -- What speaks only of private code.
-use Rattle.std.specs.Prelude.{◌≡◌, List, map, reverse, Option, Some, None, IsSome, option_map, option_and_then}
+use Rattle.std.specs.Prelude.{◌≡◌, true, List, map, reverse, Option, Some, None, is_some, option_map, option_and_then}
 use Rattle.tree_types.specs.declared.entry.Key.{Key}
 use Rattle.tree_types.specs.declared.entry.Key.TheVariants.{Workflow, Locks, Caches}
 use Rattle.saves.specs.declared.Saved.{Saved}
@@ -45,7 +45,7 @@ job_of a = record { workflow = a.workflow; views = views_of a }
 -- a snapshot is of this key, and of its kind
 abbrev pub IsOf : {C : Type 0} → Key → (Snapshot Content → Option (Seen C)) → Option (Snapshot Content) → Type 0
 IsOf k see None = Unit {0}
-IsOf k see (Some s) = (s.key ≡ k) × IsSome (see s)
+IsOf k see (Some s) = (s.key ≡ k) × (is_some (see s) ≡ true)
 
 pub record IsKept (a : Inside) : Type 0 where
   pub flow : IsOf (Workflow a.workflow) flow_seen a.flow

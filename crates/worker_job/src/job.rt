@@ -51,8 +51,11 @@ pub struct Job {
 
 impl Model for Job {
     ghost use Rattle.worker_job.specs.Jobs.{OneJob};
+    ghost use Rattle.worker_job.specs.JobCode.{job_code};
 
     ghost Value = { OneJob };
+
+    ghost coded = { job_code };
 
     ghost use Rattle.worker_job.specs.Inside.{job_of, IsKept};
 

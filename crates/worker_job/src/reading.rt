@@ -1,8 +1,10 @@
 //! A worker's views with the workflow among them, and what is asked of them.
 
-ghost use Rattle.std.specs.Prelude.{◌≡◌, Some, None, IfOk, option_copied, option_map, if◌then◌else◌};
+ghost use Rattle.std.specs.Prelude.{◌≡◌, [], Some, None, IfOk, option_copied, option_map, if◌then◌else◌};
 ghost use Rattle.tree_types.specs.declared.fact.Fact.TheVariants as fact;
 ghost use Rattle.tree_types.specs.declared.entry.Key.TheVariants as of_key;
+ghost use Rattle.std.specs.List.{list_any};
+ghost use Rattle.meaning.specs.Answers.{path};
 ghost use Rattle.law.specs.Justified as justified;
 ghost use Rattle.law.specs.Due.{record_fact, file, create, save, release, submit};
 ghost use Rattle.wf_object.specs.Documents.{command_of};
@@ -167,15 +169,12 @@ impl<'a> Reading<'a> {
             ≡ reads.filing self.now want.now }
     {
         let Want::Lock(path, lock) = want else { return None };
-        if self.job.locks().is_none() {
+        if self.job.locks().is_none() || self.standing(path).is_some() {
             return None;
         }
-        match self.standing(path) {
-            Some(_) => None,
-            None => match self.name_at(path) {
-                None => None,
-                Some(name) => Some((path, lock, name)),
-            },
+        match self.name_at(path) {
+            None => None,
+            Some(name) => Some((path, lock, name)),
         }
     }
 
@@ -229,11 +228,9 @@ impl<'a> Reading<'a> {
 
     // Whether a command resumes what was armed then.
     fn is_resumed(&self, armed: u64) -> bool
-        ensures { result ≡ list_any
-            (next.resumes (reads.law self.now) (reads.workflow self.now) (reads.views self.now) (reads.flow self.now) armed)
-            (reads.law self.now).commands }
+        ensures { result ≡ list_any (reads.resumes self.now armed) (reads.law self.now).commands }
     {
-        for command in &self.document.commands {
+        for command in self.document.commands.as_slice() {
             if self.resumes(armed, command) {
                 return true;
             }
@@ -241,10 +238,31 @@ impl<'a> Reading<'a> {
         false
     }
 
-    fn resumes(&self, armed: u64, command: &Command) -> bool
+    // Whether some command resumes nodes of this workflow.
+    pub(crate) fn may_resume(&self) -> bool
+        ensures { result ≡ list_any
+            (reads.is_resumption (reads.workflow self.now)) (reads.law self.now).commands }
+    {
+        for command in self.document.commands.as_slice() {
+            if self.is_resumption(command) {
+                return true;
+            }
+        }
+        false
+    }
+
+    fn is_resumption(&self, command: &Command) -> bool
         ensures { result
-            ≡ next.resumes (reads.law self.now) (reads.workflow self.now) (reads.views self.now) (reads.flow self.now) armed
-            (command_of command.now) }
+            ≡ reads.is_resumption (reads.workflow self.now) (command_of command.now) }
+    {
+        match command {
+            Command::Resume { tick: _, workflow } => *workflow == *self.job.workflow(),
+            Command::Resubmit { .. } => false,
+        }
+    }
+
+    fn resumes(&self, armed: u64, command: &Command) -> bool
+        ensures { result ≡ reads.resumes self.now armed (command_of command.now) }
     {
         match command {
             Command::Resume { tick, workflow } => {
@@ -271,12 +289,24 @@ impl<'a> Reading<'a> {
     // The lock that a path holds.
     pub(crate) fn held(&self, path: &Path) -> Option<&LockId>
         ensures { option_map (λ l. release l.now (justified.key (reads.workflow self.now) path.now)) result
-            ≡ next.release_held (reads.law self.now) (reads.workflow self.now) (reads.views self.now) (reads.flow self.now)
-            path.now (reads.request self.now path.now) }
+            ≡ reads.release_held self.now path.now }
     {
         match self.standing(path) {
             Some((lock, LockState::Holding)) => Some(lock),
             _ => None,
+        }
+    }
+
+    // The workflow's own lock, where it is over and holds it.
+    pub(crate) fn own_held(&self, root: &Path) -> Option<&LockId>
+        requires { root.now ≡ path [] }
+        ensures { option_map (λ l. release l.now (justified.key (reads.workflow self.now) (path []))) result
+            ≡ reads.release_own self.now }
+    {
+        if self.object.is_over() {
+            self.held(root)
+        } else {
+            None
         }
     }
 

@@ -1,0 +1,4 @@
+mod Asked
+mod Kinds
+mod Steps
+mod Wanted

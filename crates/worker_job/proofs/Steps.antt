@@ -1,0 +1,89 @@
+-- The first step that applies, and what gives the steps their answers.
+use Rattle.std.proofs.Common.{◌≡◌, Bool, true, false, ◌&&◌, ◌||◌, cond, List, [], ◌∷◌, ◌++◌, map, reverse, filter_map, refl, sym, ◌∙◌, ap}
+use Rattle.std.specs.Prelude.{ℕ, bytes_eq, Option, Some, None, option_map, option_and_then}
+use Rattle.std.specs.List.{list_any, cons_option}
+use Rattle.tree_types.specs.declared.path.Path.{Path}
+use Rattle.tree_types.specs.declared.phase.Phase.{Phase}
+use Rattle.tree_types.specs.declared.phase.Phase.TheVariants as phase
+use Rattle.tree_types.specs.declared.fact.Fact.TheVariants as fact
+use Rattle.tree_types.specs.declared.node.Kind.{Kind}
+use Rattle.tree_types.specs.declared.node.Kind.TheVariants as kind
+use Rattle.tree_types.specs.declared.node.Node.{Node}
+use Rattle.tree_types.specs.Phases.{fulfilled}
+use Rattle.meaning.specs.Answers.{Sels, first_of, armed_in}
+use Rattle.law.specs.Documents.{Text, Command, Resume, Resubmit}
+use Rattle.law.specs.Justified.{tree_of}
+use Rattle.law.specs.Due.{Matter, record_fact}
+use Rattle.next_step.specs.Views.{head, first_given}
+use Rattle.next_step.specs.Next as next
+use Rattle.next_step.specs.Next.{Next, Step, first_step}
+use Rattle.worker_job.specs.declared.reading.Reading.{Reading}
+use Rattle.worker_job.specs.Readings as reads
+use Rattle.worker_job.proofs.Asked.{none_first}
+
+-- ---- the chain
+
+pub skipped : (o : Step) (ss : List Step) → None ≡ o → first_step (o ∷ ss) ≡ first_step ss
+skipped o ss e = ap (λ o. first_step (o ∷ ss)) (sym e)
+
+pub chosen : (n : Next) (o : Step) (ss : List Step) → Some n ≡ o → n ≡ first_step (o ∷ ss)
+chosen n o ss e = ap (λ o. first_step (o ∷ ss)) e
+
+-- ---- resumptions
+
+both_false : (a b : Bool) → a ≡ false → (a && b) ≡ false
+both_false a b e = ap (λ a. a && b) e
+
+-- a list of which none is such has none that is more
+none_of : {A : Type 0} (f g : A → Bool) (xs : List A) → ((x : A) → f x ≡ false → g x ≡ false) → list_any f xs ≡ false → list_any g xs ≡ false
+none_of f g [] each e = refl
+none_of {A} f g (x ∷ xs) each e = by (f x) refl e
+  where
+    rest : list_any f xs ≡ false → list_any g xs ≡ false
+    rest h = none_of f g xs each h
+
+    by : (b : Bool) → f x ≡ b → (b || list_any f xs) ≡ false → (g x || list_any g xs) ≡ false
+    by true t h = absurd cc
+    by false t h = ap (λ a. a || list_any g xs) (each x t) ∙ rest h
+
+module _ (r : Reading) where
+  one_command : (armed : ℕ) (c : Command) → reads.is_resumption (reads.workflow r) c ≡ false → reads.resumes r armed c ≡ false
+  one_command armed (Resume c) e = both_false (bytes_eq c.workflow (reads.workflow r)) _ e
+  one_command armed (Resubmit c) e = refl
+
+  -- no command resumes nodes of this workflow
+  abbrev pub NoneResumes : Type 0
+  NoneResumes = list_any (reads.is_resumption (reads.workflow r)) (reads.law r).commands ≡ false
+
+  resumed_none : NoneResumes → (n : Node) (o : Option ℕ) → next.resumed_node (reads.law r) (reads.workflow r) (reads.views r) (reads.flow r) n o ≡ None
+  resumed_none e n None = refl
+  resumed_none e n (Some armed) =
+      ap (λ (b : Bool). cond b (Some (record_fact (fact.Resumed n.path))) None)
+      (none_of (reads.is_resumption (reads.workflow r)) (reads.resumes r armed) (reads.law r).commands (one_command armed) e)
+
+  resuming_none : NoneResumes → (n : Node) (k : Kind) (p : Phase) → next.resuming_by (reads.law r) (reads.workflow r) (reads.views r) (reads.flow r) n k p ≡ None
+  resuming_none e n kind.Suspend phase.Running = resumed_none e n (first_of (armed_in n.path.sels) r.object.now.journal)
+  resuming_none e n _ _ = refl
+
+  pub none_resumes : NoneResumes → None ≡ reads.first_node r (reads.resuming r)
+  none_resumes e = sym (none_first (reads.resuming r) (tree_of r.object.now) (λ n. resuming_none e n n.kind n.phase))
+
+  -- ---- releases without a view of the book
+
+  unheld : (reads.views r).book ≡ None → (p : Path) → reads.release_held r p ≡ None
+  unheld e p =
+      ap
+      (λ b. next.release_held (reads.law r) (reads.workflow r) (reads.views r) (reads.flow r) p
+      (next.request_in (reads.law r) (reads.workflow r) (reads.views r) (reads.flow r) p b))
+      e
+
+  unheld_node : (reads.views r).book ≡ None → (q : Sels) (p : Path) → next.release_node (reads.law r) (reads.workflow r) (reads.views r) (reads.flow r) q p ≡ None
+  unheld_node e [] p = refl
+  unheld_node e (t ∷ q) p = unheld e p
+
+  releasing_none : (reads.views r).book ≡ None → (n : Node) (b : Bool) → cond b (next.release_node (reads.law r) (reads.workflow r) (reads.views r) (reads.flow r) n.path.sels n.path) None ≡ None
+  releasing_none e n true = unheld_node e n.path.sels n.path
+  releasing_none e n false = refl
+
+  pub none_releases : (reads.views r).book ≡ None → None ≡ reads.first_node r (reads.releasing r)
+  none_releases e = sym (none_first (reads.releasing r) (tree_of r.object.now) (λ n. releasing_none e n (fulfilled n.phase)))

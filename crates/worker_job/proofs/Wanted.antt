@@ -1,0 +1,86 @@
+-- What a workflow's tree is asked for is the first that is given.
+use Rattle.std.proofs.Common.{◌≡◌, Bool, true, false, ◌&&◌, true≢false, refl, sym, ◌∙◌, ap, List, Option, option_and_then}
+use Rattle.std.specs.Prelude.{is_some}
+use Rattle.std.specs.List.{find}
+use Rattle.tree_types.specs.declared.node.Node.{Node}
+use Rattle.tree_types.specs.declared.want.Want.{Want}
+use Rattle.tree_types.specs.declared.want.Want.TheVariants as want
+use Rattle.wf_manifest.specs.declared.manifest.Manifest.{Manifest}
+use Rattle.saves.specs.declared.Saved.{Saved}
+use Rattle.meaning.specs.Answers.{Facts}
+use Rattle.meaning.specs.Trees.{tree, wants}
+use Rattle.tree_state.specs.declared.kinds.WantKind.{WantKind}
+use Rattle.tree_state.specs.declared.kinds.WantKind.TheVariants as kind
+use Rattle.tree_state.specs.Asking.{is_of}
+use Rattle.tree_incr.specs.Workflows.{Workflow}
+use Rattle.next_step.specs.Views.{first_given}
+use Rattle.worker_job.specs.declared.reading.Reading.{Reading}
+use Rattle.worker_job.specs.Readings as reads
+use Rattle.worker_job.proofs.Asked.{OnlyOf, EachOf, first_found, asked_found, asked_first}
+
+module _ {B : Type 0} (m : Manifest) (J : Facts) (state : Workflow) where
+  -- the first want of the kind that gives something
+  pub wanted :
+      (k : WantKind) (give : Want → Option B) (o : Option Want) → OnlyOf k give →
+      state ≡ record { manifest = m; facts = J } →
+      o ≡ find (λ a. is_of k a && is_some (give a)) (wants state.manifest state.facts) →
+      option_and_then give o ≡ first_given give (wants m J)
+  wanted k give o off same found =
+      ap (option_and_then give)
+      (found
+      ∙ ap (λ (s : Workflow). find (λ a. is_of k a && is_some (give a)) (wants s.manifest s.facts)) same)
+      ∙ sym (asked_found k give (wants m J) off)
+
+  -- the first want of the kind, where each of it gives something
+  pub wanted_first :
+      (k : WantKind) (give : Want → Option B) (o : Option Want) → EachOf k give →
+      state ≡ record { manifest = m; facts = J } → o ≡ find (is_of k) (wants state.manifest state.facts) →
+      option_and_then give o ≡ first_given give (wants m J)
+  wanted_first k give o each same found =
+      ap (option_and_then give)
+      (found ∙ ap (λ (s : Workflow). find (is_of k) (wants s.manifest s.facts)) same)
+      ∙ sym (asked_first k give (wants m J) each)
+
+  -- the first node that gives something
+  pub noded :
+      (give : Node → Option B) (o : Option Node) → state ≡ record { manifest = m; facts = J } →
+      o ≡ find (λ n. is_some (give n)) (tree state.manifest state.facts) →
+      option_and_then give o ≡ first_given give (tree m J)
+  noded give o same found =
+      ap (option_and_then give)
+      (found ∙ ap (λ (s : Workflow). find (λ n. is_some (give n)) (tree s.manifest s.facts)) same)
+      ∙ sym (first_found give (tree m J))
+
+-- ---- which kinds of wants give something
+
+module _ (r : Reading) where
+  pub reading_only : OnlyOf kind.Pod (reads.reading r)
+  reading_only (want.Pod p) e = absurd (true≢false e)
+  reading_only _ e = refl
+
+  pub settling_only : OnlyOf kind.Pod (reads.settling r)
+  settling_only (want.Pod p) e = absurd (true≢false e)
+  settling_only _ e = refl
+
+  pub granting_only : OnlyOf kind.Lock (reads.granting r)
+  granting_only (want.Lock p l) e = absurd (true≢false e)
+  granting_only _ e = refl
+
+  pub filing_only : OnlyOf kind.Lock (reads.filing r)
+  filing_only (want.Lock p l) e = absurd (true≢false e)
+  filing_only _ e = refl
+
+  pub timing_only : OnlyOf kind.Timer (reads.timing r)
+  timing_only (want.Timer p tick) e = absurd (true≢false e)
+  timing_only _ e = refl
+
+  pub creating_only : OnlyOf kind.Pod (reads.creating r)
+  creating_only (want.Pod p) e = absurd (true≢false e)
+  creating_only _ e = refl
+
+  pub saving_only : (ss : List Saved) → OnlyOf kind.Save (reads.saving r ss)
+  saving_only ss (want.Save p cache entry o) e = absurd (true≢false e)
+  saving_only ss _ e = refl
+
+  pub arming_each : EachOf kind.Arming (reads.arming r)
+  arming_each _ = refl
