@@ -1,4 +1,4 @@
 mod Asked
-mod Kinds
-mod Steps
 mod Wanted
+mod ShownContents
+mod Chains

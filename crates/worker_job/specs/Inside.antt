@@ -1,5 +1,5 @@
 -- What speaks only of private code.
-use Rattle.std.specs.Prelude.{◌≡◌, true, List, map, reverse, Option, Some, None, is_some, option_map, option_and_then}
+use Rattle.std.specs.Prelude.{◌≡◌, ℕ, true, List, map, reverse, Option, Some, None, is_some, option_map, option_and_then}
 use Rattle.tree_types.specs.declared.entry.Key.{Key}
 use Rattle.tree_types.specs.declared.entry.Key.TheVariants.{Workflow, Locks, Caches}
 use Rattle.saves.specs.declared.Saved.{Saved}
@@ -23,6 +23,11 @@ book_seen s = option_map (λ b. seen s.version b s.tick) (locks_in (Some s.conte
 
 abbrev pub saves_seen : Snapshot Content → Option (Seen (List Saved))
 saves_seen s = option_map (λ ss. seen s.version ss s.tick) (caches_in (Some s.content))
+
+-- the saves, and the tick at which they were read
+abbrev pub kept_saves : Option (Seen (List Saved)) → Option (List Saved × ℕ)
+kept_saves None = None
+kept_saves (Some c) = Some (c.content, c.tick)
 
 abbrev pub pod_told : SeenPod → Seen PodObject
 pod_told s = seen s.version s.pod s.tick

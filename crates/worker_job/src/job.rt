@@ -13,7 +13,7 @@ ghost use Rattle.next_step.specs.Next.{worker_next, get, act};
 ghost use Rattle.next_step.specs.Replies.{after, taken, seen, found, accepted, no_object, exists};
 ghost use Rattle.worker_job.specs.Jobs.{Leaves, IsRead, ShowsFlow, ShowsBook, ShowsSaves};
 ghost use Rattle.worker_job.specs.Told.{matter_told, next_told, key_of};
-ghost use Rattle.worker_job.specs.Inside.{look_told};
+ghost use Rattle.worker_job.specs.Inside.{look_told, kept_saves};
 
 use crate::matter::{Matter, Next};
 use crate::reading::Reading;
@@ -151,8 +151,7 @@ impl Job {
 
     // The saves, and the tick at which they were read.
     pub(crate) fn cache(&self) -> Option<(&Cache, u64)>
-        ensures { option_map (λ c. (c.0.now, c.1)) result
-            ≡ option_map (λ c. (c.content, c.tick)) self.now.views.saves }
+        ensures { option_map (λ c. (c.0.now, c.1)) result ≡ kept_saves self.now.views.saves }
     {
         match self.saves() {
             None => None,

@@ -24,7 +24,7 @@ fn records(fact: Fact) -> Next
 }
 
 fn copied(outputs: Option<&Outputs>) -> Result<Option<Outputs>, Memory>
-    ensures { IfOk result (λ copy. copy ≡ option_copied outputs) }
+    ensures { IfOk result (λ copy. copy ≡ option_copied outputs.entry) }
 {
     match outputs {
         None => Ok(None),
