@@ -1,0 +1,5 @@
+mod Renaming
+mod Bounds
+mod Ways
+mod Began
+mod Unstarted

@@ -1,0 +1,16 @@
+pub mod Documents
+pub mod Kept
+pub mod Added
+pub mod ContentCode
+pub mod Inside
+pub use Rattle.history.specs.History
+pub use Rattle.law.specs.Contents
+pub use Rattle.law.specs.Due
+pub use Rattle.law.specs.Justified
+pub use Rattle.meaning.specs.Answers
+pub use Rattle.meaning.specs.Trees
+pub use Rattle.memo_cache.specs.Saving
+pub use Rattle.sync_locks.specs.Book
+pub use Rattle.tree_incr.specs.Workflows
+pub use Rattle.wf_bundle.specs.Outcomes
+pub use Rattle.wf_manifest.specs.Valid
