@@ -5,3 +5,5 @@
 mod documents;
 #[cfg(test)]
 mod evaluation;
+#[cfg(test)]
+mod found;

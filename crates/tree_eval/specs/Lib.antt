@@ -8,6 +8,7 @@ pub use Rattle.meaning.specs.Answers
 pub use Rattle.meaning.specs.Trees
 pub use Rattle.recorded.specs.Ends
 pub use Rattle.tree_state.specs.Asking
+pub use Rattle.tree_state.specs.Finding
 pub use Rattle.wf_manifest.specs.Valid
 pub use Rattle.locality.specs.Answered
 pub use Rattle.tree_walk.specs.Index

@@ -10,6 +10,6 @@ mod whole;
 mod workflow_tree;
 
 pub use recorded::{Ended, JournalIndex, MemoAnswer, Recorded};
-pub use tree_state::{TreeRefused, WantKind};
+pub use tree_state::{Clue, NodeTest, TreeRefused, WantKind, WantTest};
 pub use whole::{Evaluated, evaluate, tree, wants};
 pub use workflow_tree::WorkflowTree;

@@ -1,9 +1,10 @@
 //! What the entrypoint makes, and the exit handler.
 
-ghost use Rattle.std.specs.Prelude.{◌≡◌, IfOk, OnOk, option_copied, length};
+ghost use Rattle.std.specs.Prelude.{◌≡◌, IfOk, IfSome, OnOk, option_copied, length};
 ghost use Rattle.std.specs.List.{find};
 ghost use Rattle.meaning.specs.Trees.{nodes_in, wants_in, beginnings_in};
 ghost use Rattle.tree_state.specs.Asking.{is_of, first};
+ghost use Rattle.tree_state.specs.Finding.{passes, next_tick, IsFound};
 ghost use Rattle.scopes.specs.Values.{HasValuesOf};
 ghost use Rattle.meaning.specs.Trees as trees;
 ghost use Rattle.wf_manifest.specs.Valid.{Valid};
@@ -19,8 +20,10 @@ use hooks_exit::workflow_phase;
 use recorded::Recorded;
 use scopes::Scope;
 use std::alloc::Global;
-use tree_state::{Room, State, Told, TreeRefused, WantKind, counts_nodes};
-use tree_types::{Path, Phase, Want};
+use tree_state::{
+    Clue, NodeTest, Room, State, Told, TreeRefused, WantKind, WantTest, counts_nodes, sooner,
+};
+use tree_types::{Node, Path, Phase, Want};
 use tree_walk::{Positions, positions_of, top_state};
 use wf_manifest::Manifest;
 
@@ -158,6 +161,57 @@ impl Tops {
         match &self.exit {
             None => None,
             Some(exit) => exit.first_beginning(),
+        }
+    }
+
+    /// The first want of a kind, in tree order, that passes a test.
+    pub fn find_want<T: WantTest>(&self, kind: WantKind, test: &T) -> Option<&Want>
+        ensures { option_copied result
+            ≡ find (passes kind (T.accepts test.now)) (wants_in (inside.lines_of self.now)) }
+    {
+        if let Some(want) = self.main.find_want(kind, test) {
+            return Some(want);
+        }
+        match &self.exit {
+            None => None,
+            Some(exit) => exit.find_want(kind, test),
+        }
+    }
+
+    /// The first node, in tree order, that passes a test.
+    pub fn find_node<T: NodeTest>(&self, test: &T) -> Option<&Node>
+        ensures { option_copied result
+            ≡ find (T.accepts test.now) (nodes_in (inside.lines_of self.now)) }
+    {
+        if let Some(node) = self.main.find_node(test) {
+            return Some(node);
+        }
+        match &self.exit {
+            None => None,
+            Some(exit) => exit.find_node(test),
+        }
+    }
+
+    /// A node that a clue leads to. Where none is found, there may be one all the same.
+    pub fn on_way(&self, clue: &Clue<'_>) -> Option<&Node>
+        ensures { IfSome result (λ node. IsFound clue.now (inside.lines_of self.now) node.now) }
+    {
+        if let Some(node) = self.main.on_way(clue) {
+            return Some(node);
+        }
+        match &self.exit {
+            None => None,
+            Some(exit) => exit.on_way(clue),
+        }
+    }
+
+    /// The least tick above a clock at which a timer is due that is asked for.
+    pub fn next_timer(&self, clock: u64) -> Option<u64>
+        ensures { result ≡ next_tick clock (wants_in (inside.lines_of self.now)) }
+    {
+        match &self.exit {
+            None => self.main.next_timer(clock),
+            Some(exit) => sooner(self.main.next_timer(clock), exit.next_timer(clock)),
         }
     }
 

@@ -1,10 +1,11 @@
 //! The tree of a workflow, kept as it was made.
 
-ghost use Rattle.std.specs.Prelude.{◌≡◌, ◌≢◌, Err, IfOk, length, option_copied};
+ghost use Rattle.std.specs.Prelude.{◌≡◌, ◌≢◌, Err, IfOk, IfSome, length, option_copied};
 ghost use Rattle.std.specs.List.{find};
 ghost use Rattle.meaning.specs.Trees.{nodes_in, wants_in, beginnings_in};
 ghost use Rattle.tree_state.specs.declared.refused.TreeRefused.TheVariants as refused;
 ghost use Rattle.tree_state.specs.Asking.{is_of, first};
+ghost use Rattle.tree_state.specs.Finding.{passes, next_tick, IsFound};
 ghost use Rattle.wf_manifest.specs.Valid.{Valid};
 ghost use Rattle.tree_walk.specs.Index.{IsReady};
 ghost use Rattle.tree_eval.specs.After.{Follows};
@@ -19,8 +20,8 @@ use base_types::limits::MOST_NODES;
 use std::alloc::Global;
 use std::marker::Model;
 use tree_change::{changed_top, split};
-use tree_state::{State, WantKind};
-use tree_types::{Note, Path, Phase, Sel, Want, Wants};
+use tree_state::{Clue, NodeTest, State, WantKind, WantTest};
+use tree_types::{Node, Note, Path, Phase, Sel, Want, Wants};
 use tree_walk::Positions;
 use wf_manifest::Manifest;
 
@@ -126,6 +127,36 @@ impl WorkflowTree {
         ensures { option_copied result ≡ first (beginnings_in (lines_of self.now)) }
     {
         self.tops.first_beginning()
+    }
+
+    /// The first want of a kind, in tree order, that passes a test. What asks for none of the kind is not walked over.
+    pub fn find_want<T: WantTest>(&self, kind: WantKind, test: &T) -> Option<&Want>
+        ensures { option_copied result
+            ≡ find (passes kind (T.accepts test.now)) (wants_in (lines_of self.now)) }
+    {
+        self.tops.find_want(kind, test)
+    }
+
+    /// The first node, in tree order, that passes a test.
+    pub fn find_node<T: NodeTest>(&self, test: &T) -> Option<&Node>
+        ensures { option_copied result ≡ find (T.accepts test.now) (nodes_in (lines_of self.now)) }
+    {
+        self.tops.find_node(test)
+    }
+
+    /// A node that a clue leads to, by the way that paths and names show. What is found fits the clue; where none is found,
+    /// there may be one all the same.
+    pub fn on_way(&self, clue: &Clue<'_>) -> Option<&Node>
+        ensures { IfSome result (λ node. IsFound clue.now (lines_of self.now) node.now) }
+    {
+        self.tops.on_way(clue)
+    }
+
+    /// The least tick above a clock at which a timer is due that is asked for.
+    pub fn next_timer(&self, clock: u64) -> Option<u64>
+        ensures { result ≡ next_tick clock (wants_in (lines_of self.now)) }
+    {
+        self.tops.next_timer(clock)
     }
 
     /// The tree, what it asks for, and the tasks that may begin, each as a list in tree order.

@@ -1,8 +1,9 @@
 //! A workflow's tree that is kept while facts are added: its manifest, the facts that are recorded of it, and what they mean.
 #![tactic(auto)]
 
+mod finding;
 mod next;
 mod state;
 
 pub use state::TreeState;
-pub use tree_eval::{Evaluated, TreeRefused, WantKind};
+pub use tree_eval::{Evaluated, NodeTest, TreeRefused, WantKind, WantTest};

@@ -33,7 +33,7 @@ pub struct TreeState {
     valid: Arc<Valid>,
     positions: Arc<Positions>,
     facts: SharedFacts,
-    tree: Arc<WorkflowTree>,
+    pub(crate) tree: Arc<WorkflowTree>,
 }
 
 impl Model for TreeState {

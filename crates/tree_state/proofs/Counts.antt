@@ -10,7 +10,7 @@ use Rattle.meaning.specs.Trees.{node_in, nodes_in}
 use Rattle.tree_state.specs.Counting.{count_below, count}
 use Rattle.tree_state.proofs.Tellings.{filter_append}
 
-no_nodes : (ws : List Want) (ls : List Line) → nodes_in (map Asks ws ++ ls) ≡ nodes_in ls
+pub no_nodes : (ws : List Want) (ls : List Line) → nodes_in (map Asks ws ++ ls) ≡ nodes_in ls
 no_nodes [] ls = refl
 no_nodes (w ∷ ws) ls = no_nodes ws ls
 

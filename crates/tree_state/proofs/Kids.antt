@@ -34,9 +34,9 @@ made_of a = record {
   parts = parts_of a.kids.items;
 }
 
--- a kid, and those behind it
-pub from_here : (kids : List Kid) (i : ℕ) (k : Kid) → i < length kids → k ≡ get_or kids i k → drop i kids ≡ k ∷ drop (i + 1) kids
-from_here kids i k lt is = drop-cons kids i k lt ∙ ap (λ y. y ∷ drop (suc i) kids) (sym is) ∙ ap (λ n. k ∷ drop n kids) next
+-- one of a list, and those behind it
+pub from_here : {A : Type 0} (xs : List A) (i : ℕ) (x : A) → i < length xs → x ≡ get_or xs i x → drop i xs ≡ x ∷ drop (i + 1) xs
+from_here xs i x lt is = drop-cons xs i x lt ∙ ap (λ y. y ∷ drop (suc i) xs) (sym is) ∙ ap (λ n. x ∷ drop n xs) next
   where
     next : suc i ≡ i + 1
     next = omega arith

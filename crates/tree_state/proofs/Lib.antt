@@ -3,3 +3,5 @@ mod Kids
 mod Firsts
 mod Sums
 pub mod Tellings
+mod Found
+pub mod Readings

@@ -1,6 +1,7 @@
 pub mod Asking
 pub mod Counting
 pub mod CountsNodes
+pub mod Finding
 pub mod Inside
 pub mod MadeCode
 pub mod Replacing

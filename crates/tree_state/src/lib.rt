@@ -2,8 +2,11 @@
 #![tactic(auto)]
 
 mod below;
+mod clue;
+mod finding;
 mod kinds;
 mod law;
+mod questions;
 mod refused;
 mod room;
 mod state;
@@ -11,8 +14,11 @@ mod sum;
 mod told;
 
 pub use below::Below;
+pub use clue::Clue;
+pub use finding::sooner;
 pub use kinds::WantKind;
 pub use law::counts_nodes;
+pub use questions::{NodeTest, WantTest};
 pub use refused::TreeRefused;
 pub use room::Room;
 pub use state::State;

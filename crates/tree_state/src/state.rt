@@ -73,13 +73,13 @@ pub(crate) struct Kid {
 #[cycle(state)]
 #[derive(Debug, Drop)]
 pub struct State {
-    node: Node,
-    wants: Wants,
+    pub(crate) node: Node,
+    pub(crate) wants: Wants,
     finished: bool,
     any_succeeded: bool,
     all_failed: bool,
-    kids: Vec<Kid>,
-    sum: Sum,
+    pub(crate) kids: Vec<Kid>,
+    pub(crate) sum: Sum,
 }
 
 impl Model for State {

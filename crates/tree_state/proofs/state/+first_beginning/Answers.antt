@@ -5,7 +5,8 @@ use Rattle.tree_state.specs.declared.sum.Sum.{Sum}
 use Rattle.tree_state.specs.declared.state.Kid.{Kid}
 use Rattle.tree_state.specs.Inside.Kids.{parts_of}
 use Rattle.tree_state.proofs.Kids.{made_of}
-use Rattle.tree_state.proofs.Firsts.{beginning_among, beginnings_then, kid_has, kid_lacks, begins_below, begin_lacks}
+use Rattle.tree_state.proofs.Firsts.{kid_has, kid_lacks, begins_below, begin_lacks}
+use Rattle.tree_state.proofs.Readings.{beginning_among, beginnings_then}
 use Rattle.tree_state.proofs.state.+first_beginning.Goals as goal
 
 pub State::first_beginning-returns-then-not-self : goal.State::first_beginning-returns-then-not-self
