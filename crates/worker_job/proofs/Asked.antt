@@ -27,6 +27,7 @@ module _ {A B : Type 0} where
   none_first give [] none = refl
   none_first give (x ∷ xs) none = none_by give x xs (give x) (none x) (none_first give xs none)
 
+module _ {A : Type 0} where
   -- tests that agree find the same
   found_by : (f g : A → Bool) (x : A) (xs : List A) → f x ≡ g x → find f xs ≡ find g xs → cond (f x) (Some x) (find f xs) ≡ cond (g x) (Some x) (find g xs)
   found_by f g x xs e rest = ap (λ b. cond b (Some x) (find f xs)) e ∙ ap (cond (g x) (Some x)) rest

@@ -1,5 +1,5 @@
 -- The first step that applies, and what gives the steps their answers.
-use Rattle.std.proofs.Common.{◌≡◌, Bool, true, false, ◌&&◌, ◌||◌, cond, List, [], ◌∷◌, ◌++◌, map, reverse, filter_map, refl, sym, ◌∙◌, ap}
+use Rattle.std.proofs.Common.{◌≡◌, Bool, true, false, ◌&&◌, ◌||◌, cond, List, [], ◌∷◌, ◌++◌, map, reverse, filter_map, true≢false, refl, sym, ◌∙◌, ap}
 use Rattle.std.specs.Prelude.{ℕ, bytes_eq, Option, Some, None, option_map, option_and_then}
 use Rattle.std.specs.List.{list_any, cons_option}
 use Rattle.tree_types.specs.declared.path.Path.{Path}
@@ -35,16 +35,13 @@ both_false : (a b : Bool) → a ≡ false → (a && b) ≡ false
 both_false a b e = ap (λ a. a && b) e
 
 -- a list of which none is such has none that is more
+none_by : {A : Type 0} (f g : A → Bool) (x : A) (xs : List A) (b : Bool) → f x ≡ b → (f x ≡ false → g x ≡ false) → (list_any f xs ≡ false → list_any g xs ≡ false) → (b || list_any f xs) ≡ false → (g x || list_any g xs) ≡ false
+none_by f g x xs true t each rest h = absurd (true≢false h)
+none_by f g x xs false t each rest h = ap (λ a. a || list_any g xs) (each t) ∙ rest h
+
 none_of : {A : Type 0} (f g : A → Bool) (xs : List A) → ((x : A) → f x ≡ false → g x ≡ false) → list_any f xs ≡ false → list_any g xs ≡ false
 none_of f g [] each e = refl
-none_of {A} f g (x ∷ xs) each e = by (f x) refl e
-  where
-    rest : list_any f xs ≡ false → list_any g xs ≡ false
-    rest h = none_of f g xs each h
-
-    by : (b : Bool) → f x ≡ b → (b || list_any f xs) ≡ false → (g x || list_any g xs) ≡ false
-    by true t h = absurd cc
-    by false t h = ap (λ a. a || list_any g xs) (each x t) ∙ rest h
+none_of f g (x ∷ xs) each e = none_by f g x xs (f x) refl (each x) (λ h. none_of f g xs each h) e
 
 module _ (r : Reading) where
   one_command : (armed : ℕ) (c : Command) → reads.is_resumption (reads.workflow r) c ≡ false → reads.resumes r armed c ≡ false

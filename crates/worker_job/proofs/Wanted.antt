@@ -83,4 +83,9 @@ module _ (r : Reading) where
   saving_only ss _ e = refl
 
   pub arming_each : EachOf kind.Arming (reads.arming r)
-  arming_each _ = refl
+  arming_each (want.Pod p) = refl
+  arming_each (want.Lock p l) = refl
+  arming_each (want.LookUp p cache entry age) = refl
+  arming_each (want.Arming p) = refl
+  arming_each (want.Timer p tick) = refl
+  arming_each (want.Save p cache entry o) = refl
