@@ -2,3 +2,4 @@ mod Asked
 mod Wanted
 mod ShownContents
 mod Chains
+mod Looking

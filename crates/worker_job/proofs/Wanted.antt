@@ -1,5 +1,5 @@
 -- What a workflow's tree is asked for is the first that is given.
-use Rattle.std.proofs.Common.{◌≡◌, Bool, true, false, ◌&&◌, true≢false, refl, sym, ◌∙◌, ap, List, Option, option_and_then}
+use Rattle.std.proofs.Common.{◌≡◌, Bool, true, false, ◌&&◌, true≢false, refl, sym, ◌∙◌, ap, List, Option, option_map, option_and_then}
 use Rattle.std.specs.Prelude.{is_some}
 use Rattle.std.specs.List.{find}
 use Rattle.tree_types.specs.declared.node.Node.{Node}
@@ -7,7 +7,9 @@ use Rattle.tree_types.specs.declared.want.Want.{Want}
 use Rattle.tree_types.specs.declared.want.Want.TheVariants as want
 use Rattle.wf_manifest.specs.declared.manifest.Manifest.{Manifest}
 use Rattle.saves.specs.declared.Saved.{Saved}
-use Rattle.meaning.specs.Answers.{Facts}
+use Rattle.meaning.specs.Answers.{Facts, Sels}
+use Rattle.tree_types.specs.Places.{sels_eq}
+use Rattle.law.specs.Due.{is_at}
 use Rattle.meaning.specs.Trees.{tree, wants}
 use Rattle.tree_state.specs.declared.kinds.WantKind.{WantKind}
 use Rattle.tree_state.specs.declared.kinds.WantKind.TheVariants as kind
@@ -50,6 +52,18 @@ module _ {B : Type 0} (m : Manifest) (J : Facts) (state : Workflow) where
       ap (option_and_then give)
       (found ∙ ap (λ (s : Workflow). find (λ n. is_some (give n)) (tree s.manifest s.facts)) same)
       ∙ sym (first_found give (tree m J))
+
+module _ (m : Manifest) (J : Facts) (state : Workflow) where
+  -- the name of a path's node
+  pub named :
+      (q p : Sels) (o : Option Node) → state ≡ record { manifest = m; facts = J } → q ≡ p →
+      o ≡ find (λ n. sels_eq n.path.sels q) (tree state.manifest state.facts) →
+      option_map (λ (n : Node). n.name) o ≡ option_map (λ (n : Node). n.name) (find (is_at p) (tree m J))
+  named q p o same path found =
+      ap (option_map (λ (n : Node). n.name))
+      (found
+      ∙ ap (λ (s : Workflow). find (λ n. sels_eq n.path.sels q) (tree s.manifest s.facts)) same
+      ∙ ap (λ (p : Sels). find (is_at p) (tree m J)) path)
 
 -- ---- which kinds of wants give something
 
