@@ -1,7 +1,7 @@
 -- The first want that gives something, by a test and its kind.
-use Rattle.std.proofs.Common.{◌≡◌, Bool, true, false, cond, ◌&&◌, List, [], ◌∷◌, filter_map, refl, sym, ◌∙◌, ap, Option, Some, None, option_and_then}
+use Rattle.std.proofs.Common.{◌≡◌, Bool, true, false, cond, ◌&&◌, ◌||◌, List, [], ◌∷◌, filter_map, refl, sym, ◌∙◌, ap, Option, Some, None, option_and_then}
 use Rattle.std.specs.Prelude.{is_some}
-use Rattle.std.specs.List.{find, cons_option}
+use Rattle.std.specs.List.{find, list_any, cons_option}
 use Rattle.tree_types.specs.declared.want.Want.{Want}
 use Rattle.tree_state.specs.declared.kinds.WantKind.{WantKind}
 use Rattle.tree_state.specs.Asking.{is_of}
@@ -35,6 +35,15 @@ module _ {A : Type 0} where
   pub found_same : (f g : A → Bool) (xs : List A) → ((x : A) → f x ≡ g x) → find f xs ≡ find g xs
   found_same f g [] same = refl
   found_same f g (x ∷ xs) same = found_by f g x xs (same x) (found_same f g xs same)
+
+  -- one is found where one is such
+  any_by : (f g : A → Bool) (x : A) (xs : List A) (b : Bool) → f x ≡ b → f x ≡ g x → is_some (find f xs) ≡ list_any g xs → is_some (cond (f x) (Some x) (find f xs)) ≡ (g x || list_any g xs)
+  any_by f g x xs true is e rest = ap (λ b. is_some (cond b (Some x) (find f xs))) is ∙ ap (λ b. b || list_any g xs) (sym is ∙ e)
+  any_by f g x xs false is e rest = ap (λ b. is_some (cond b (Some x) (find f xs))) is ∙ rest ∙ ap (λ b. b || list_any g xs) (sym is ∙ e)
+
+  pub any_found : (f g : A → Bool) (xs : List A) → ((x : A) → f x ≡ g x) → is_some (find f xs) ≡ list_any g xs
+  any_found f g [] same = refl
+  any_found f g (x ∷ xs) same = any_by f g x xs (f x) refl (same x) (any_found f g xs same)
 
 -- ---- wants of a kind
 

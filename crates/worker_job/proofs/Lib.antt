@@ -3,3 +3,4 @@ mod Wanted
 mod ShownContents
 mod Chains
 mod Looking
+mod Walks

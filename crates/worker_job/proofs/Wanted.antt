@@ -1,7 +1,9 @@
 -- What a workflow's tree is asked for is the first that is given.
-use Rattle.std.proofs.Common.{◌≡◌, Bool, true, false, ◌&&◌, true≢false, refl, sym, ◌∙◌, ap, List, Option, option_map, option_and_then}
+use Rattle.std.proofs.Common.{◌≡◌, ℕ, Bool, true, false, ◌&&◌, true≢false, refl, sym, ◌∙◌, ap, List, Option, Some, None, option_map, option_and_then}
 use Rattle.std.specs.Prelude.{is_some}
-use Rattle.std.specs.List.{find}
+use Rattle.std.specs.List.{find, list_any}
+use Rattle.tree_types.specs.declared.path.Path.{Path}
+use Rattle.tree_types.specs.declared.entry.Key.TheVariants as of_key
 use Rattle.tree_types.specs.declared.node.Node.{Node}
 use Rattle.tree_types.specs.declared.want.Want.{Want}
 use Rattle.tree_types.specs.declared.want.Want.TheVariants as want
@@ -9,16 +11,20 @@ use Rattle.wf_manifest.specs.declared.manifest.Manifest.{Manifest}
 use Rattle.saves.specs.declared.Saved.{Saved}
 use Rattle.meaning.specs.Answers.{Facts, Sels}
 use Rattle.tree_types.specs.Places.{sels_eq}
-use Rattle.law.specs.Due.{is_at}
+use Rattle.law.specs.Documents.{Text}
+use Rattle.law.specs.Due.{Matter, is_at}
 use Rattle.meaning.specs.Trees.{tree, wants}
 use Rattle.tree_state.specs.declared.kinds.WantKind.{WantKind}
 use Rattle.tree_state.specs.declared.kinds.WantKind.TheVariants as kind
 use Rattle.tree_state.specs.Asking.{is_of}
 use Rattle.tree_incr.specs.Workflows.{Workflow}
-use Rattle.next_step.specs.Views.{first_given}
+use Rattle.next_step.specs.Views.{Seen, first_given}
+use Rattle.next_step.specs.Next as next
+use Rattle.next_step.specs.Next.{get, act}
 use Rattle.worker_job.specs.declared.reading.Reading.{Reading}
 use Rattle.worker_job.specs.Readings as reads
-use Rattle.worker_job.proofs.Asked.{OnlyOf, EachOf, first_found, asked_found, asked_first}
+use Rattle.worker_job.specs.Inside.{kept_saves}
+use Rattle.worker_job.proofs.Asked.{OnlyOf, EachOf, first_found, any_found, asked_found, asked_first}
 
 module _ {B : Type 0} (m : Manifest) (J : Facts) (state : Workflow) where
   -- the first want of the kind that gives something
@@ -103,3 +109,53 @@ module _ (r : Reading) where
   arming_each (want.Arming p) = refl
   arming_each (want.Timer p tick) = refl
   arming_each (want.Save p cache entry o) = refl
+
+  -- a look-up always gives something: the saves are read, or they answer
+  looked :
+      (p : Path) (cache entry : Text) (age : Option ℕ) (o : Option (Seen (List Saved))) →
+      true ≡ is_some (next.by_saves (reads.law r) (reads.workflow r) (reads.views r) (reads.flow r) o
+      (next.looked_up (reads.law r) (reads.workflow r) (reads.views r) (reads.flow r) p cache entry age))
+  looked p cache entry age None = refl
+  looked p cache entry age (Some c) = refl
+
+  pub looking_each : EachOf kind.LookUp (reads.looking r)
+  looking_each (want.Pod p) = refl
+  looking_each (want.Lock p l) = refl
+  looking_each (want.LookUp p cache entry age) = looked p cache entry age (reads.views r).saves
+  looking_each (want.Arming p) = refl
+  looking_each (want.Timer p tick) = refl
+  looking_each (want.Save p cache entry o) = refl
+
+  -- ---- saves
+
+  same_save : (a : Want) → is_of kind.Save a ≡ next.is_save (reads.law r) (reads.workflow r) (reads.views r) (reads.flow r) a
+  same_save (want.Pod p) = refl
+  same_save (want.Lock p l) = refl
+  same_save (want.LookUp p cache entry age) = refl
+  same_save (want.Arming p) = refl
+  same_save (want.Timer p tick) = refl
+  same_save (want.Save p cache entry o) = refl
+
+  found_save : (xs : List Want) → is_some (find (is_of kind.Save) xs) ≡ list_any (next.is_save (reads.law r) (reads.workflow r) (reads.views r) (reads.flow r)) xs
+  found_save xs = any_found (is_of kind.Save) (next.is_save (reads.law r) (reads.workflow r) (reads.views r) (reads.flow r)) xs same_save
+
+  pub save_asked :
+      (state : Workflow) (o : Option Want) → state ≡ record { manifest = r.object.now.manifest; facts = r.object.now.journal } →
+      o ≡ find (is_of kind.Save) (wants state.manifest state.facts) → is_some o ≡ reads.asks_save r
+  save_asked state o same found =
+      ap is_some
+      (found ∙ ap (λ (s : Workflow). find (is_of kind.Save) (wants s.manifest s.facts)) same)
+      ∙ found_save (wants r.object.now.manifest r.object.now.journal)
+
+  -- the saves are read first, where there is no view of them
+  pub saves_read :
+      (o : Option (Seen (List Saved))) (answer : Seen (List Saved) → Option Matter) → None ≡ kept_saves o →
+      Some (get of_key.Caches) ≡ next.by_saves (reads.law r) (reads.workflow r) (reads.views r) (reads.flow r) o answer
+  saves_read None answer e = refl
+  saves_read (Some c) answer e = absurd (true≢false (sym (ap is_some e)))
+
+  pub saves_there :
+      (o : Option (Seen (List Saved))) (ss : List Saved) (tick : ℕ) (answer : List Saved → Option Matter) → Some (ss, tick) ≡ kept_saves o →
+      option_map act (answer ss) ≡ next.by_saves (reads.law r) (reads.workflow r) (reads.views r) (reads.flow r) o (λ c. answer c.content)
+  saves_there None ss tick answer e = absurd (true≢false (ap is_some e))
+  saves_there (Some c) ss tick answer e = ap (λ (k : Option (List Saved × ℕ)). option_and_then (λ (k : List Saved × ℕ). option_map act (answer k.0)) k) e

@@ -1,5 +1,6 @@
 -- A reading of a worker: its views with the workflow among them, and what the steps of `next_step` make of it.
 use Rattle.std.specs.Prelude.{ℕ, List, Bool, false, bytes_eq, Option, Some, option_map}
+use Rattle.std.specs.List.{list_any}
 use Rattle.tree_types.specs.declared.path.Path.{Path}
 use Rattle.tree_types.specs.declared.path.LockId.{LockId}
 use Rattle.tree_types.specs.declared.node.Node.{Node}
@@ -12,7 +13,7 @@ use Rattle.law.specs.Documents.{Text, Command, Resume, Resubmit, Document}
 use Rattle.law.specs.Contents.{Flow, PodObject}
 use Rattle.law.specs.Due.{Matter, release, node_name, name_at}
 use Rattle.wf_object.specs.Documents.{law_of}
-use Rattle.law.specs.Justified.{tree_of, key}
+use Rattle.law.specs.Justified.{tree_of, wants_of, key}
 use Rattle.next_step.specs.Views.{Seen, Views, first_given}
 use Rattle.next_step.specs.Next as next
 use Rattle.next_step.specs.Next.{Next, Step, act}
@@ -116,6 +117,13 @@ module _ (r : Reading) where
 
   abbrev pub first_node : {B : Type 0} → (Node → Option B) → Option B
   first_node give = first_given give (tree_of r.object.now)
+
+  -- something is to be saved
+  abbrev pub asks_save : Bool
+  asks_save = list_any (next.is_save law workflow views flow) (wants_of r.object.now)
+
+  abbrev pub save_by_saves : Step
+  save_by_saves = next.by_saves law workflow views flow views.saves (next.save_by law workflow views flow)
 
   -- ---- the steps
 

@@ -1,6 +1,6 @@
 //! A worker's views with the workflow among them, and what is asked of them.
 
-ghost use Rattle.std.specs.Prelude.{◌≡◌, [], Some, None, IfOk, option_copied, option_map, if◌then◌else◌};
+ghost use Rattle.std.specs.Prelude.{◌≡◌, [], Some, None, IfOk, option_copied, option_map, is_some, map};
 ghost use Rattle.tree_types.specs.declared.fact.Fact.TheVariants as fact;
 ghost use Rattle.tree_types.specs.declared.entry.Key.TheVariants as of_key;
 ghost use Rattle.std.specs.List.{list_any};
@@ -8,6 +8,7 @@ ghost use Rattle.meaning.specs.Answers.{path};
 ghost use Rattle.law.specs.Justified as justified;
 ghost use Rattle.law.specs.Due.{record_fact, file, create, save, release, submit};
 ghost use Rattle.wf_object.specs.Documents.{command_of};
+ghost use Rattle.next_step.specs.Views.{first_given};
 ghost use Rattle.next_step.specs.Next as next;
 ghost use Rattle.next_step.specs.Next.{get};
 ghost use Rattle.worker_job.specs.Told.{resubmission_told};
@@ -25,7 +26,7 @@ use tree_types::{
     HolderKey, Kind, LockId, Node, Outcome, Outputs, Path, Phase, Rank, Want, fulfilled,
 };
 use wf_bundle::Document;
-use wf_manifest::Manifest;
+use wf_manifest::{Manifest, Template};
 use wf_object::{PodObject, WfObject};
 
 // The views of a job, where the workflow was read, and the document.
@@ -42,7 +43,13 @@ pub(crate) struct Reading<'a> {
 pub(crate) fn has_locks(manifest: &Manifest) -> bool
     ensures { result ≡ next.has_locks manifest.now }
 {
-    manifest.lock.is_some() || manifest.templates.iter().any(|template| template.lock.is_some())
+    manifest.lock.is_some() || has_template_locks(manifest.templates.as_slice())
+}
+
+fn has_template_locks(templates: &[Template]) -> bool
+    ensures { result ≡ list_any (λ template. is_some template.lock) templates.now }
+{
+    templates.iter().any(|template| template.lock.is_some())
 }
 
 impl<'a> Reading<'a> {
@@ -230,7 +237,14 @@ impl<'a> Reading<'a> {
     fn is_resumed(&self, armed: u64) -> bool
         ensures { result ≡ list_any (reads.resumes self.now armed) (reads.law self.now).commands }
     {
-        for command in self.document.commands.as_slice() {
+        self.any_resumes(armed, self.document.commands.as_slice())
+    }
+
+    fn any_resumes(&self, armed: u64, commands: &[Command]) -> bool
+        ensures { result
+            ≡ list_any (reads.resumes self.now armed) (map command_of commands.now) }
+    {
+        for command in commands {
             if self.resumes(armed, command) {
                 return true;
             }
@@ -243,7 +257,14 @@ impl<'a> Reading<'a> {
         ensures { result ≡ list_any
             (reads.is_resumption (reads.workflow self.now)) (reads.law self.now).commands }
     {
-        for command in self.document.commands.as_slice() {
+        self.any_resumption(self.document.commands.as_slice())
+    }
+
+    fn any_resumption(&self, commands: &[Command]) -> bool
+        ensures { result ≡ list_any
+            (reads.is_resumption (reads.workflow self.now)) (map command_of commands.now) }
+    {
+        for command in commands {
             if self.is_resumption(command) {
                 return true;
             }
@@ -355,5 +376,22 @@ impl<'a> Reading<'a> {
             memoized: *memoized,
             created: *created,
         }))
+    }
+
+    // The first of them.
+    pub(crate) fn first_untried(
+        &self,
+        commands: &[Command],
+    ) -> Result<Option<Resubmission>, Memory>
+        ensures { IfOk result (λ r. option_map (λ c. submit (resubmission_told c)) r
+            ≡ first_given (reads.submitting self.now) (map command_of commands.now)) }
+    {
+        for command in commands {
+            let untried = self.untried(command)?;
+            if untried.is_some() {
+                return Ok(untried);
+            }
+        }
+        Ok(None)
     }
 }

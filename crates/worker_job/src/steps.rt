@@ -12,7 +12,7 @@ ghost use Rattle.worker_job.specs.Readings.{step_told};
 use crate::matter::{Matter, Next};
 use crate::reading::{Reading, has_locks};
 use base_types::{Memory, TryCopy};
-use item_reader::Command;
+use memo_cache::Cache;
 use tree_incr::WantKind;
 use tree_types::{Fact, Key, LockId, Outputs, Path, Sels, Want};
 
@@ -228,15 +228,18 @@ impl<'a> Reading<'a> {
         }
     }
 
-    fn save_one(&self) -> Result<Option<Next>, Memory>
-        ensures { IfOk result (λ step. step_told step ≡ reads.save_one self.now) }
+    // Whether something is to be saved.
+    fn asks_save(&self) -> bool
+        ensures { result ≡ reads.asks_save self.now }
     {
-        if self.object.state().first_want(WantKind::Save).is_none() {
-            return Ok(None);
-        }
-        let Some((saves, _)) = self.job.cache() else {
-            return Ok(Some(Next::Get(Key::Caches)));
-        };
+        self.object.state().first_want(WantKind::Save).is_some()
+    }
+
+    // The first that is not among the saves.
+    fn save_into(&self, saves: &Cache) -> Result<Option<Next>, Memory>
+        ensures { IfOk result (λ step. step_told step
+            ≡ option_map act (reads.asked self.now (reads.saving self.now saves.now))) }
+    {
         match self.first_unsaved(saves) {
             None => Ok(None),
             Some((path, cache, entry, outputs)) => {
@@ -244,6 +247,25 @@ impl<'a> Reading<'a> {
                 let matter = Matter::Save(cache.copy()?, entry.copy()?, writer, outputs.copy()?);
                 Ok(Some(Next::Act(matter)))
             }
+        }
+    }
+
+    fn save_by_saves(&self) -> Result<Option<Next>, Memory>
+        ensures { IfOk result (λ step. step_told step ≡ reads.save_by_saves self.now) }
+    {
+        match self.job.cache() {
+            None => Ok(Some(Next::Get(Key::Caches))),
+            Some((saves, _)) => self.save_into(saves),
+        }
+    }
+
+    fn save_one(&self) -> Result<Option<Next>, Memory>
+        ensures { IfOk result (λ step. step_told step ≡ reads.save_one self.now) }
+    {
+        if self.asks_save() {
+            self.save_by_saves()
+        } else {
+            Ok(None)
         }
     }
 
@@ -274,11 +296,9 @@ impl<'a> Reading<'a> {
     fn resubmit(&self) -> Result<Option<Next>, Memory>
         ensures { IfOk result (λ step. step_told step ≡ reads.resubmit self.now) }
     {
-        for command in self.document.commands.as_slice() {
-            if let Some(resubmission) = self.untried(command)? {
-                return Ok(Some(Next::Act(Matter::Submit(resubmission))));
-            }
+        match self.first_untried(self.document.commands.as_slice())? {
+            None => Ok(None),
+            Some(resubmission) => Ok(Some(Next::Act(Matter::Submit(resubmission)))),
         }
-        Ok(None)
     }
 }

@@ -14,3 +14,6 @@ returns-in-Some c =
     let r = c.args.self.now in
     c.kept.ensures
     ∙ noded r.object.now.manifest r.object.now.journal c.state.result.now (reads.releasing r) (Some c.in-Some.node.now) c.state.ensures c.in-Some.ensures
+
+pub returns-then-is_none : goal.returns-then-is_none
+returns-then-is_none c = ?

@@ -14,3 +14,6 @@ returns-in-Some c =
     let r = c.args.self.now in
     c.resumed.ensures
     ∙ noded r.object.now.manifest r.object.now.journal c.state.result.now (reads.resuming r) (Some c.in-Some.node.now) c.state.ensures c.in-Some.ensures
+
+pub returns-then-not-may_resume : goal.returns-then-not-may_resume
+returns-then-not-may_resume c = ?

@@ -1,0 +1,4 @@
+use Rattle.worker_job.proofs.reading.Reading.asks_save.Goals as goal
+
+pub returns : goal.returns
+returns c = ?
