@@ -1,6 +1,6 @@
 -- The first step that applies, and what gives the steps their answers.
-use Rattle.std.proofs.Common.{◌≡◌, Bool, true, false, ◌&&◌, ◌||◌, cond, List, [], ◌∷◌, ◌++◌, map, reverse, filter_map, true≢false, refl, sym, ◌∙◌, ap}
-use Rattle.std.specs.Prelude.{ℕ, bytes_eq, Option, Some, None, option_map, option_and_then}
+use Rattle.std.proofs.Common.{◌≡◌, Bool, true, false, ◌&&◌, ◌||◌, cond, List, [], ◌∷◌, ◌++◌, map, reverse, filter_map, true≢false, refl, sym, ◌∙◌, ap, Bor}
+use Rattle.std.specs.Prelude.{ℕ, bytes_eq, Option, Some, None, is_some, option_map, option_and_then, MatchOption}
 use Rattle.std.specs.List.{list_any, cons_option}
 use Rattle.tree_types.specs.declared.path.Path.{Path}
 use Rattle.tree_types.specs.declared.phase.Phase.{Phase}
@@ -12,22 +12,28 @@ use Rattle.tree_types.specs.declared.node.Node.{Node}
 use Rattle.tree_types.specs.Phases.{fulfilled}
 use Rattle.meaning.specs.Answers.{Sels, first_of, armed_in}
 use Rattle.law.specs.Documents.{Text, Command, Resume, Resubmit}
+use Rattle.law.specs.Contents.{Content}
 use Rattle.law.specs.Justified.{tree_of}
+use Rattle.object_store.specs.declared.snapshot.Snapshot.{Snapshot}
 use Rattle.law.specs.Due.{Matter, record_fact}
 use Rattle.next_step.specs.Views.{head, first_given}
 use Rattle.next_step.specs.Next as next
-use Rattle.next_step.specs.Next.{Next, Step, first_step}
+use Rattle.next_step.specs.Next.{Step, first_step}
 use Rattle.worker_job.specs.declared.reading.Reading.{Reading}
+use Rattle.worker_job.specs.Jobs.{ShowsBook}
 use Rattle.worker_job.specs.Readings as reads
+use Rattle.worker_job.specs.Readings.{step_told}
+use Rattle.worker_job.specs.Told.{next_told}
+use Rattle.worker_job.specs.declared.matter.Next.{Next as Act}
 use Rattle.worker_job.proofs.Asked.{none_first}
 
 -- ---- the chain
 
-pub skipped : (o : Step) (ss : List Step) → None ≡ o → first_step (o ∷ ss) ≡ first_step ss
-skipped o ss e = ap (λ o. first_step (o ∷ ss)) (sym e)
+pub skips : (o : Option Act) (s : Step) (ss : List Step) → step_told o ≡ s → o ≡ None → first_step (s ∷ ss) ≡ first_step ss
+skips o s ss told is = ap (λ (t : Step). first_step (t ∷ ss)) (sym told ∙ ap step_told is)
 
-pub chosen : (n : Next) (o : Step) (ss : List Step) → Some n ≡ o → n ≡ first_step (o ∷ ss)
-chosen n o ss e = ap (λ o. first_step (o ∷ ss)) e
+pub chooses : (n : Act) (o : Option Act) (s : Step) (ss : List Step) → step_told o ≡ s → o ≡ Some n → next_told n ≡ first_step (s ∷ ss)
+chooses n o s ss told is = ap (λ (t : Step). first_step (t ∷ ss)) (sym (ap step_told is) ∙ told)
 
 -- ---- resumptions
 
@@ -66,6 +72,10 @@ module _ (r : Reading) where
   none_resumes e = sym (none_first (reads.resuming r) (tree_of r.object.now) (λ n. resuming_none e n n.kind n.phase))
 
   -- ---- releases without a view of the book
+
+  pub unviewed : (o : Option (Bor (Snapshot Content))) → MatchOption o ((reads.views r).book ≡ None) (λ s. ShowsBook s.now (reads.views r)) → is_some o ≡ false → (reads.views r).book ≡ None
+  unviewed None shows none = shows
+  unviewed (Some s) shows none = absurd (true≢false none)
 
   unheld : (reads.views r).book ≡ None → (p : Path) → reads.release_held r p ≡ None
   unheld e p =

@@ -1,6 +1,6 @@
 -- What a workflow's tree is asked for is the first that is given.
-use Rattle.std.proofs.Common.{◌≡◌, ℕ, Bool, true, false, ◌&&◌, true≢false, refl, sym, ◌∙◌, ap, List, Option, Some, None, option_map, option_and_then}
-use Rattle.std.specs.Prelude.{is_some}
+use Rattle.std.proofs.Common.{◌≡◌, ℕ, Bool, true, false, ◌&&◌, true≢false, refl, sym, ◌∙◌, ap, Bor, List, Option, Some, None, option_map, option_and_then}
+use Rattle.std.specs.Prelude.{is_some, option_copied}
 use Rattle.std.specs.List.{find, list_any}
 use Rattle.tree_types.specs.declared.path.Path.{Path}
 use Rattle.tree_types.specs.declared.entry.Key.TheVariants as of_key
@@ -139,11 +139,17 @@ module _ (r : Reading) where
   found_save : (xs : List Want) → is_some (find (is_of kind.Save) xs) ≡ list_any (next.is_save (reads.law r) (reads.workflow r) (reads.views r) (reads.flow r)) xs
   found_save xs = any_found (is_of kind.Save) (next.is_save (reads.law r) (reads.workflow r) (reads.views r) (reads.flow r)) xs same_save
 
+  some_lent : (o : Option (Bor Want)) → is_some o ≡ is_some (option_copied o)
+  some_lent None = refl
+  some_lent (Some a) = refl
+
   pub save_asked :
-      (state : Workflow) (o : Option Want) → state ≡ record { manifest = r.object.now.manifest; facts = r.object.now.journal } →
-      o ≡ find (is_of kind.Save) (wants state.manifest state.facts) → is_some o ≡ reads.asks_save r
+      (state : Workflow) (o : Option (Bor Want)) →
+      state ≡ record { manifest = r.object.now.manifest; facts = r.object.now.journal } →
+      option_copied o ≡ find (is_of kind.Save) (wants state.manifest state.facts) → is_some o ≡ reads.asks_save r
   save_asked state o same found =
-      ap is_some
+      some_lent o
+      ∙ ap is_some
       (found ∙ ap (λ (s : Workflow). find (is_of kind.Save) (wants s.manifest s.facts)) same)
       ∙ found_save (wants r.object.now.manifest r.object.now.journal)
 

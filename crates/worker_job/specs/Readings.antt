@@ -1,5 +1,5 @@
 -- A reading of a worker: its views with the workflow among them, and what the steps of `next_step` make of it.
-use Rattle.std.specs.Prelude.{ℕ, List, Bool, false, bytes_eq, Option, Some, option_map}
+use Rattle.std.specs.Prelude.{ℕ, List, [], ◌∷◌, Bool, false, bytes_eq, Option, Some, option_map}
 use Rattle.std.specs.List.{list_any}
 use Rattle.tree_types.specs.declared.path.Path.{Path}
 use Rattle.tree_types.specs.declared.path.LockId.{LockId}
@@ -171,3 +171,16 @@ module _ (r : Reading) where
 
   abbrev pub steps : List Step
   steps = next.steps law workflow views flow
+
+  -- the steps that are left, where those before them do not apply
+  abbrev pub last_steps : List Step
+  last_steps = release_one ∷ resubmit ∷ []
+
+  abbrev pub changing_steps : List Step
+  changing_steps = resume ∷ create_one ∷ save_one ∷ last_steps
+
+  abbrev pub waiting_steps : List Step
+  waiting_steps = look_up ∷ arm ∷ ring ∷ changing_steps
+
+  abbrev pub answering_steps : List Step
+  answering_steps = settle ∷ grant ∷ file_one ∷ waiting_steps

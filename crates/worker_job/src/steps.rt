@@ -46,6 +46,13 @@ impl<'a> Reading<'a> {
         if let Some(next) = self.start() {
             return Ok(next);
         }
+        self.next_answer()
+    }
+
+    // The same, where the steps before do not apply.
+    fn next_answer(&self) -> Result<Next, Memory>
+        ensures { IfOk result (λ n. next_told n ≡ next.first_step (reads.answering_steps self.now)) }
+    {
         if let Some(next) = self.settle()? {
             return Ok(next);
         }
@@ -55,6 +62,12 @@ impl<'a> Reading<'a> {
         if let Some(next) = self.file_one()? {
             return Ok(next);
         }
+        self.next_waiting()
+    }
+
+    fn next_waiting(&self) -> Result<Next, Memory>
+        ensures { IfOk result (λ n. next_told n ≡ next.first_step (reads.waiting_steps self.now)) }
+    {
         if let Some(next) = self.look_up()? {
             return Ok(next);
         }
@@ -64,6 +77,12 @@ impl<'a> Reading<'a> {
         if let Some(next) = self.ring()? {
             return Ok(next);
         }
+        self.next_change()
+    }
+
+    fn next_change(&self) -> Result<Next, Memory>
+        ensures { IfOk result (λ n. next_told n ≡ next.first_step (reads.changing_steps self.now)) }
+    {
         if let Some(next) = self.resume()? {
             return Ok(next);
         }
@@ -73,6 +92,12 @@ impl<'a> Reading<'a> {
         if let Some(next) = self.save_one()? {
             return Ok(next);
         }
+        self.next_last()
+    }
+
+    fn next_last(&self) -> Result<Next, Memory>
+        ensures { IfOk result (λ n. next_told n ≡ next.first_step (reads.last_steps self.now)) }
+    {
         if let Some(next) = self.release_one()? {
             return Ok(next);
         }
