@@ -1,7 +1,8 @@
 -- The first step that applies, where those before it do not.
 use Rattle.std.proofs.Common.{◌≡◌, sym, ◌∙◌, ◌∷◌, subst}
 use Rattle.std.specs.Prelude.{IfOk}
-use Rattle.next_step.specs.Next.{Next}
+use Rattle.std.proofs.lemmas.Result.{IfOk-from_err}
+use Rattle.next_step.specs.Next.{Next, first_step}
 use Rattle.worker_job.specs.Told.{next_told}
 use Rattle.worker_job.specs.Readings as reads
 use Rattle.worker_job.proofs.Chains.{skips, chooses}
@@ -36,3 +37,8 @@ returns c =
     ∙ skips c.in_ok-next-2.field-0 (reads.grant r) (reads.file_one r ∷ reads.waiting_steps r) c.in_ok-next-2.ensures c.in_default-2.is
     ∙ skips c.in_ok-next-3.field-0 (reads.file_one r) (reads.waiting_steps r) c.in_ok-next-3.ensures c.in_default-3.is))
     c.next_waiting.ensures
+
+pub returns-in_err-next-3 : goal.returns-in_err-next-3
+returns-in_err-next-3 c =
+    IfOk-from_err c.from_residual-in_err-next-3.result (λ n. next_told n ≡ first_step (reads.answering_steps c.args.self.now))
+    c.from_residual-in_err-next-3.ensures.0
