@@ -11,16 +11,17 @@ use Rattle.tree_types.specs.declared.node.Kind.TheVariants as kind
 use Rattle.tree_types.specs.declared.node.Node.{Node}
 use Rattle.tree_types.specs.Phases.{fulfilled}
 use Rattle.meaning.specs.Answers.{Sels, first_of, armed_in}
-use Rattle.law.specs.Documents.{Text, Command, Resume, Resubmit}
-use Rattle.law.specs.Contents.{Content}
+use Rattle.law.specs.Documents.{Text, Command, Resume, Resubmit, Document}
+use Rattle.law.specs.Contents.{Flow, Content, flow_in}
 use Rattle.law.specs.Justified.{tree_of}
 use Rattle.object_store.specs.declared.snapshot.Snapshot.{Snapshot}
 use Rattle.law.specs.Due.{Matter, record_fact}
-use Rattle.next_step.specs.Views.{head, first_given}
+use Rattle.next_step.specs.Views.{Views, head, first_given}
 use Rattle.next_step.specs.Next as next
-use Rattle.next_step.specs.Next.{Step, first_step}
+use Rattle.next_step.specs.Next.{Step, first_step, worker_next}
+use Rattle.next_step.specs.Replies.{seen}
 use Rattle.worker_job.specs.declared.reading.Reading.{Reading}
-use Rattle.worker_job.specs.Jobs.{ShowsBook}
+use Rattle.worker_job.specs.Jobs.{ShowsFlow, ShowsBook}
 use Rattle.worker_job.specs.Readings as reads
 use Rattle.worker_job.specs.Readings.{step_told}
 use Rattle.worker_job.specs.Told.{next_told}
@@ -94,3 +95,12 @@ module _ (r : Reading) where
 
   pub none_releases : (reads.views r).book ≡ None → None ≡ reads.first_node r (reads.releasing r)
   none_releases e = sym (none_first (reads.releasing r) (tree_of r.object.now) (λ n. releasing_none e n (fulfilled n.phase)))
+
+-- ---- by the view of the workflow
+
+pub viewed :
+    (D : Document) (w : Text) (v : Views) (s : Snapshot Content) (object : Flow) → ShowsFlow s w v →
+    Some object ≡ flow_in (Some s.content) → first_step (next.steps D w v (seen s.version object s.tick)) ≡ worker_next D w v
+viewed D w v s object shows found =
+    let same : Some object ≡ Some shows.flow = found ∙ ap (λ (c : Content). flow_in (Some c)) shows.content in
+    ap (next.next_by D w v) (ap (option_map (λ (f : Flow). seen s.version f s.tick)) same ∙ sym shows.viewed)
