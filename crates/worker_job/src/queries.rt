@@ -220,10 +220,7 @@ impl<'a> Reading<'a> {
     }
 
     // The first that is to be saved and is not among the saves.
-    pub(crate) fn first_unsaved(
-        &self,
-        saves: &Cache,
-    ) -> Option<(&Path, &Text, &Text, &Outputs)>
+    pub(crate) fn first_unsaved(&self, saves: &Cache) -> Option<(&Path, &Text, &Text, &Outputs)>
         ensures { option_map
             (λ u. save u.1.now u.2.now (justified.key (reads.workflow self.now) u.0.now) u.3.now) result
             ≡ reads.asked self.now (reads.saving self.now saves.now) }

@@ -158,7 +158,9 @@ impl<'a> Reading<'a> {
         ensures { option_map (λ p. record_fact (fact.Granted p.now)) result
             ≡ reads.granting self.now want.now }
     {
-        let Want::Lock(path, _) = want else { return None };
+        let Want::Lock(path, _) = want else {
+            return None
+        };
         match self.standing(path) {
             Some((_, LockState::Holding)) => Some(path),
             _ => None,
@@ -166,16 +168,15 @@ impl<'a> Reading<'a> {
     }
 
     // The path of a lock that the book does not know, the lock, and the name of the path's node.
-    pub(crate) fn unknown<'b>(
-        &'b self,
-        want: &'b Want,
-    ) -> Option<(&'b Path, &'b LockId, &'b Text)>
+    pub(crate) fn unknown<'b>(&'b self, want: &'b Want) -> Option<(&'b Path, &'b LockId, &'b Text)>
         ensures { option_map
             (λ u. file u.1.now (justified.key (reads.workflow self.now) u.0.now)
             (justified.rank self.now.object.now.manifest u.0.now.sels u.2.now)) result
             ≡ reads.filing self.now want.now }
     {
-        let Want::Lock(path, lock) = want else { return None };
+        let Want::Lock(path, lock) = want else {
+            return None
+        };
         if self.job.locks().is_none() || self.standing(path).is_some() {
             return None;
         }
@@ -379,10 +380,7 @@ impl<'a> Reading<'a> {
     }
 
     // The first of them.
-    pub(crate) fn first_untried(
-        &self,
-        commands: &[Command],
-    ) -> Result<Option<Resubmission>, Memory>
+    pub(crate) fn first_untried(&self, commands: &[Command]) -> Result<Option<Resubmission>, Memory>
         ensures { IfOk result (λ r. option_map (λ c. submit (resubmission_told c)) r
             ≡ first_given (reads.submitting self.now) (map command_of commands.now)) }
     {
