@@ -121,6 +121,7 @@ shows_saves a j r shown lent kept =
 -- ---- what was read is the view of its key
 
 module _ (v : Views) (n t : ℕ) where
+
   pub taken_flow :
       (w : Text) (c : Content) → is_some (flow_in (Some c)) ≡ true →
       taken v (Workflow w) n t c ≡ goes_on (record v { flow = option_map (λ x. seen n x t) (flow_in (Some c)); saves = None })

@@ -226,7 +226,11 @@ impl Job {
     }
 
     /// The change was accepted, and its object is this.
-    pub fn did(&mut self, matter: &Matter, snapshot: Snapshot<WfContent>) -> Result<bool, Memory>
+    pub fn did(
+        &mut self,
+        matter: &Matter,
+        snapshot: Snapshot<WfContent>,
+    ) -> Result<bool, Memory>
         requires { snapshot.key ≡ key_of self.old.workflow (matter_told matter.now) }
         ensures after { IfOk result (λ on. Leaves on
             (after self.old.views (act (matter_told matter.now))
