@@ -3,3 +3,6 @@ mod Wanted
 mod ShownContents
 mod Chains
 mod Looking
+mod Changed
+mod Parts
+mod Keeping

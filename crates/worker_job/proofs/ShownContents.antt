@@ -41,14 +41,14 @@ flow_lent (Some s) w i = flow_shown s.now w s.now.content refl i.0 i.1
 
 pub shows_flow :
     (a : Inside) (j : OneJob) (r : Option (Bor (Snapshot Content))) → job_of a ≡ j → option_copied r ≡ a.flow →
-    IsKept a → MatchOption r (j.views.flow ≡ None) (λ s. ShowsFlow s.now j.workflow j.views)
+    IsKept a.workflow a.flow a.book a.saves → MatchOption r (j.views.flow ≡ None) (λ s. ShowsFlow s.now j.workflow j.views)
 shows_flow a j r shown lent kept =
     subst (λ (j : OneJob). MatchOption r (j.views.flow ≡ None) (λ s. ShowsFlow s.now j.workflow j.views)) shown
     (subst
     (λ (o : Option (Snapshot Content)). MatchOption r (option_and_then flow_seen o ≡ None)
     (λ s. ShownFlow s.now a.workflow (option_and_then flow_seen o)))
     lent
-    (flow_lent r a.workflow (subst (λ (o : Option (Snapshot Content)). IsOf (Workflow a.workflow) flow_seen o) (sym lent) kept.flow)))
+    (flow_lent r a.workflow (subst (λ (o : Option (Snapshot Content)). IsOf (Workflow a.workflow) flow_seen o) (sym lent) kept.flow_of)))
 
 book_shown :
     (s : Snapshot Content) (c : Content) → s.content ≡ c → s.key ≡ Locks → is_some (book_seen s) ≡ true →
@@ -75,14 +75,14 @@ book_lent (Some s) i = book_shown s.now s.now.content refl i.0 i.1
 
 pub shows_book :
     (a : Inside) (j : OneJob) (r : Option (Bor (Snapshot Content))) → job_of a ≡ j → option_copied r ≡ a.book →
-    IsKept a → MatchOption r (j.views.book ≡ None) (λ s. ShowsBook s.now j.views)
+    IsKept a.workflow a.flow a.book a.saves → MatchOption r (j.views.book ≡ None) (λ s. ShowsBook s.now j.views)
 shows_book a j r shown lent kept =
     subst (λ (j : OneJob). MatchOption r (j.views.book ≡ None) (λ s. ShowsBook s.now j.views)) shown
     (subst
     (λ (o : Option (Snapshot Content)). MatchOption r (option_and_then book_seen o ≡ None)
     (λ s. ShownBook s.now (option_and_then book_seen o)))
     lent
-    (book_lent r (subst (λ (o : Option (Snapshot Content)). IsOf (Locks) book_seen o) (sym lent) kept.book)))
+    (book_lent r (subst (λ (o : Option (Snapshot Content)). IsOf (Locks) book_seen o) (sym lent) kept.book_of)))
 
 saves_shown :
     (s : Snapshot Content) (c : Content) → s.content ≡ c → s.key ≡ Caches → is_some (saves_seen s) ≡ true →
@@ -109,14 +109,14 @@ saves_lent (Some s) i = saves_shown s.now s.now.content refl i.0 i.1
 
 pub shows_saves :
     (a : Inside) (j : OneJob) (r : Option (Bor (Snapshot Content))) → job_of a ≡ j → option_copied r ≡ a.saves →
-    IsKept a → MatchOption r (j.views.saves ≡ None) (λ s. ShowsSaves s.now j.views)
+    IsKept a.workflow a.flow a.book a.saves → MatchOption r (j.views.saves ≡ None) (λ s. ShowsSaves s.now j.views)
 shows_saves a j r shown lent kept =
     subst (λ (j : OneJob). MatchOption r (j.views.saves ≡ None) (λ s. ShowsSaves s.now j.views)) shown
     (subst
     (λ (o : Option (Snapshot Content)). MatchOption r (option_and_then saves_seen o ≡ None)
     (λ s. ShownSaves s.now (option_and_then saves_seen o)))
     lent
-    (saves_lent r (subst (λ (o : Option (Snapshot Content)). IsOf (Caches) saves_seen o) (sym lent) kept.saves)))
+    (saves_lent r (subst (λ (o : Option (Snapshot Content)). IsOf (Caches) saves_seen o) (sym lent) kept.saves_of)))
 
 -- ---- what was read is the view of its key
 
