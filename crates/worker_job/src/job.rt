@@ -221,11 +221,7 @@ impl Job {
     }
 
     /// The change was accepted, and its object is this.
-    pub fn did(
-        &mut self,
-        matter: &Matter,
-        snapshot: Snapshot<WfContent>,
-    ) -> Result<bool, Memory>
+    pub fn did(&mut self, matter: &Matter, snapshot: Snapshot<WfContent>) -> Result<bool, Memory>
         requires { snapshot.key ≡ key_of self.old.workflow (matter_told matter.now) }
         ensures after { IfOk result (λ on. Leaves on
             (after self.old.views (act (matter_told matter.now))
@@ -372,7 +368,8 @@ impl Job {
     // The looks at the pod of a name are dropped.
     fn forget(&mut self, name: &Text) -> Result<(), Memory>
         ensures views { OnOk result (self.new.views ≡ record self.old.views {
-            pods = filter (λ l. not (is_look name.now l)) self.old.views.pods }) }
+          pods = filter (λ l. not (is_look name.now l)) self.old.views.pods;
+        }) }
         ensures workflow { self.new.workflow ≡ self.old.workflow }
     {
         let none = Looks::new(self.workflow.allocator());

@@ -1,3 +1,4 @@
+-- The looks at other names are left.
 use Rattle.std.proofs.Common.{List, not, filter, ◌∙◌, ap}
 use Rattle.looks.specs.declared.Look.{Look}
 use Rattle.looks.specs.Named.{is_named}
