@@ -1,6 +1,6 @@
 mod Asked
 mod Wanted
-mod ShownContents
 mod Chains
 mod Looking
 mod Walks
+mod Changed

@@ -5,6 +5,7 @@ use Rattle.tree_types.specs.declared.entry.Key.TheVariants.{Workflow, Locks, Cac
 use Rattle.saves.specs.declared.Saved.{Saved}
 use Rattle.object_store.specs.declared.snapshot.Snapshot.{Snapshot}
 use Rattle.looks.specs.declared.Look.{Look}
+use Rattle.law.specs.Documents.{Text}
 use Rattle.law.specs.Contents.{Flow, PodObject, Book, Content, flow_in}
 use Rattle.wf_object.specs.Kept.{locks_in, caches_in}
 use Rattle.next_step.specs.Views.{Seen, Look as PodLook, Views}
@@ -52,7 +53,7 @@ abbrev pub IsOf : {C : Type 0} → Key → (Snapshot Content → Option (Seen C)
 IsOf k see None = Unit {0}
 IsOf k see (Some s) = (s.key ≡ k) × (is_some (see s) ≡ true)
 
-pub record IsKept (a : Inside) : Type 0 where
-  pub flow : IsOf (Workflow a.workflow) flow_seen a.flow
-  pub book : IsOf Locks book_seen a.book
-  pub saves : IsOf Caches saves_seen a.saves
+pub record IsKept (w : Text) (flow book saves : Option (Snapshot Content)) : Type 0 where
+  pub flow_of : IsOf (Workflow w) flow_seen flow
+  pub book_of : IsOf Locks book_seen book
+  pub saves_of : IsOf Caches saves_seen saves
