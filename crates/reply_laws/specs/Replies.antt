@@ -43,7 +43,7 @@ pub record DidBehind
 
 -- What some calls leave of a client, by its meanings: its history goes on and stays lawful, its law and its place stay, and
 -- its faults never fall.
-pub record Leaves
+pub record LeavesClient
     {S L P : Type 0} (begins : L → List (Key × Content) → Type 0) (justified : L → Story → Event Content → Type 0)
     (seen : S → Story) (law : S → L) (place : S → P) (faults : S → ℕ) (before after : S) : Type 0 where
   pub later : Extends (seen after) (seen before)

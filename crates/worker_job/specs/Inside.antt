@@ -1,10 +1,11 @@
 -- What speaks only of private code.
-use Rattle.std.specs.Prelude.{◌≡◌, List, map, reverse, Option, Some, None, IsSome, option_map, option_and_then}
+use Rattle.std.specs.Prelude.{◌≡◌, ℕ, true, List, map, reverse, Option, Some, None, is_some, option_map, option_and_then}
 use Rattle.tree_types.specs.declared.entry.Key.{Key}
 use Rattle.tree_types.specs.declared.entry.Key.TheVariants.{Workflow, Locks, Caches}
 use Rattle.saves.specs.declared.Saved.{Saved}
 use Rattle.object_store.specs.declared.snapshot.Snapshot.{Snapshot}
 use Rattle.looks.specs.declared.Look.{Look}
+use Rattle.law.specs.Documents.{Text}
 use Rattle.law.specs.Contents.{Flow, PodObject, Book, Content, flow_in}
 use Rattle.wf_object.specs.Kept.{locks_in, caches_in}
 use Rattle.next_step.specs.Views.{Seen, Look as PodLook, Views}
@@ -23,6 +24,11 @@ book_seen s = option_map (λ b. seen s.version b s.tick) (locks_in (Some s.conte
 
 abbrev pub saves_seen : Snapshot Content → Option (Seen (List Saved))
 saves_seen s = option_map (λ ss. seen s.version ss s.tick) (caches_in (Some s.content))
+
+-- the saves, and the tick at which they were read
+abbrev pub kept_saves : Option (Seen (List Saved)) → Option (List Saved × ℕ)
+kept_saves None = None
+kept_saves (Some c) = Some (c.content, c.tick)
 
 abbrev pub pod_told : SeenPod → Seen PodObject
 pod_told s = seen s.version s.pod s.tick
@@ -45,9 +51,9 @@ job_of a = record { workflow = a.workflow; views = views_of a }
 -- a snapshot is of this key, and of its kind
 abbrev pub IsOf : {C : Type 0} → Key → (Snapshot Content → Option (Seen C)) → Option (Snapshot Content) → Type 0
 IsOf k see None = Unit {0}
-IsOf k see (Some s) = (s.key ≡ k) × IsSome (see s)
+IsOf k see (Some s) = (s.key ≡ k) × (is_some (see s) ≡ true)
 
-pub record IsKept (a : Inside) : Type 0 where
-  pub flow : IsOf (Workflow a.workflow) flow_seen a.flow
-  pub book : IsOf Locks book_seen a.book
-  pub saves : IsOf Caches saves_seen a.saves
+pub record IsKept (w : Text) (flow book saves : Option (Snapshot Content)) : Type 0 where
+  pub flow_of : IsOf (Workflow w) flow_seen flow
+  pub book_of : IsOf Locks book_seen book
+  pub saves_of : IsOf Caches saves_seen saves

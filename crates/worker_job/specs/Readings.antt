@@ -1,5 +1,6 @@
 -- A reading of a worker: its views with the workflow among them, and what the steps of `next_step` make of it.
-use Rattle.std.specs.Prelude.{List, Bool, Option, option_map, option_and_then}
+use Rattle.std.specs.Prelude.{ℕ, List, [], ◌∷◌, Bool, false, bytes_eq, Option, Some, option_map}
+use Rattle.std.specs.List.{list_any}
 use Rattle.tree_types.specs.declared.path.Path.{Path}
 use Rattle.tree_types.specs.declared.path.LockId.{LockId}
 use Rattle.tree_types.specs.declared.node.Node.{Node}
@@ -8,18 +9,23 @@ use Rattle.saves.specs.declared.Saved.{Saved}
 use Rattle.sync_locks.specs.Book.{standing}
 use Rattle.books.specs.declared.LockState.{LockState}
 use Rattle.books.specs.declared.Request.{Request}
-use Rattle.law.specs.Documents.{Text, Command, Document}
+use Rattle.law.specs.Documents.{Text, Command, Resume, Resubmit, Document}
 use Rattle.law.specs.Contents.{Flow, PodObject}
-use Rattle.law.specs.Due.{Matter, node_name, name_at}
+use Rattle.law.specs.Due.{Matter, release, node_name, name_at}
 use Rattle.wf_object.specs.Documents.{law_of}
-use Rattle.law.specs.Justified.{tree_of}
+use Rattle.law.specs.Justified.{tree_of, wants_of, key}
 use Rattle.next_step.specs.Views.{Seen, Views, first_given}
 use Rattle.next_step.specs.Next as next
-use Rattle.next_step.specs.Next.{Next, Step}
+use Rattle.next_step.specs.Next.{Next, Step, act}
 use Rattle.next_step.specs.Replies.{seen}
 use Rattle.worker_job.specs.declared.matter.Next.{Next as Act}
 use Rattle.worker_job.specs.declared.reading.Reading.{Reading}
 use Rattle.worker_job.specs.Told.{next_told}
+
+-- a command that resumes nodes of this workflow
+abbrev pub is_resumption : Text → Command → Bool
+is_resumption w (Resume c) = bytes_eq c.workflow w
+is_resumption w (Resubmit c) = false
 
 abbrev pub step_told : Option Act → Step
 step_told o = option_map next_told o
@@ -86,6 +92,24 @@ module _ (r : Reading) where
   abbrev pub submitting : Command → Option Matter
   submitting = next.submitting law workflow views flow
 
+  abbrev pub looking : Want → Step
+  looking = next.looking law workflow views flow
+
+  abbrev pub arming : Want → Option Matter
+  arming = next.arming law workflow views flow
+
+  abbrev pub resumes : ℕ → Command → Bool
+  resumes = next.resumes law workflow views flow
+
+  abbrev pub release_held : Path → Option Matter
+  release_held p = next.release_held law workflow views flow p (request p)
+
+  abbrev pub release_own : Option Matter
+  release_own = next.release_own law workflow views flow
+
+  abbrev pub released : LockId → Path → Step
+  released lock p = Some (act (release lock (key workflow p)))
+
   -- ---- the first that is given
 
   abbrev pub asked : {B : Type 0} → (Want → Option B) → Option B
@@ -94,7 +118,69 @@ module _ (r : Reading) where
   abbrev pub first_node : {B : Type 0} → (Node → Option B) → Option B
   first_node give = first_given give (tree_of r.object.now)
 
+  -- something is to be saved
+  abbrev pub asks_save : Bool
+  asks_save = list_any (next.is_save law workflow views flow) (wants_of r.object.now)
+
+  abbrev pub save_by_saves : Step
+  save_by_saves = next.by_saves law workflow views flow views.saves (next.save_by law workflow views flow)
+
   -- ---- the steps
+
+  abbrev pub read_book : Step
+  read_book = next.read_book law workflow views flow
+
+  abbrev pub read_pod : Step
+  read_pod = next.read_pod law workflow views flow
+
+  abbrev pub start : Step
+  start = next.start law workflow views flow
+
+  abbrev pub settle : Step
+  settle = next.settle law workflow views flow
+
+  abbrev pub grant : Step
+  grant = next.grant law workflow views flow
+
+  abbrev pub file_one : Step
+  file_one = next.file_one law workflow views flow
+
+  abbrev pub look_up : Step
+  look_up = next.look_up law workflow views flow
+
+  abbrev pub arm : Step
+  arm = next.arm law workflow views flow
+
+  abbrev pub ring : Step
+  ring = next.ring law workflow views flow
+
+  abbrev pub resume : Step
+  resume = next.resume law workflow views flow
+
+  abbrev pub create_one : Step
+  create_one = next.create_one law workflow views flow
+
+  abbrev pub save_one : Step
+  save_one = next.save_one law workflow views flow
+
+  abbrev pub release_one : Step
+  release_one = next.release_one law workflow views flow
+
+  abbrev pub resubmit : Step
+  resubmit = next.resubmit law workflow views flow
 
   abbrev pub steps : List Step
   steps = next.steps law workflow views flow
+
+  -- the steps that are left, where those before them do not apply
+  abbrev pub last_steps : List Step
+  last_steps = release_one ∷ resubmit ∷ []
+
+  abbrev pub changing_steps : List Step
+  changing_steps = resume ∷ create_one ∷ save_one ∷ last_steps
+
+  abbrev pub waiting_steps : List Step
+  waiting_steps = look_up ∷ arm ∷ ring ∷ changing_steps
+
+  abbrev pub answering_steps : List Step
+  answering_steps = settle ∷ grant ∷ file_one ∷ waiting_steps

@@ -1,19 +1,17 @@
 //! What was read and noted in a job.
 
-ghost use Rattle.std.specs.Prelude.{◌≡◌, ◌∷◌, None, Some, not, IfOk, MatchOption, option_copied, option_map, reverse, map};
+ghost use Rattle.std.specs.Prelude.{◌≡◌, ◌∷◌, None, Some, true, not, filter, bytes_eq, is_some, IfOk, OnOk, MatchOption, option_copied, option_map};
 ghost use Rattle.std.specs.List.{list_any};
-ghost use Rattle.std.specs.Prelude.{bytes_eq};
 ghost use Rattle.tree_types.specs.declared.entry.Key.TheVariants as of_key;
-ghost use Rattle.saves.specs.declared.Saved.{Saved};
-ghost use Rattle.law.specs.Contents.{Book};
+ghost use Rattle.law.specs.Contents.{flow_in};
 ghost use Rattle.wf_object.specs.Documents.{law_of};
-ghost use Rattle.wf_object.specs.Kept.{law_book};
-ghost use Rattle.next_step.specs.Views.{nothing, look_at, pod_seen};
+ghost use Rattle.wf_object.specs.Kept.{law_book, locks_in, caches_in};
+ghost use Rattle.next_step.specs.Views.{nothing, is_look, look_at, pod_seen};
 ghost use Rattle.next_step.specs.Next.{worker_next, get, act};
-ghost use Rattle.next_step.specs.Replies.{after, taken, seen, found, accepted, no_object, exists};
+ghost use Rattle.next_step.specs.Replies.{after, taken, with_look, seen, found, accepted, no_object, exists};
 ghost use Rattle.worker_job.specs.Jobs.{Leaves, IsRead, ShowsFlow, ShowsBook, ShowsSaves};
 ghost use Rattle.worker_job.specs.Told.{matter_told, next_told, key_of};
-ghost use Rattle.worker_job.specs.Inside.{look_told};
+ghost use Rattle.worker_job.specs.Inside.{look_told, pod_told, kept_saves, flow_seen, book_seen, saves_seen};
 
 use crate::matter::{Matter, Next};
 use crate::reading::Reading;
@@ -51,14 +49,17 @@ pub struct Job {
 
 impl Model for Job {
     ghost use Rattle.worker_job.specs.Jobs.{OneJob};
+    ghost use Rattle.worker_job.specs.JobCode.{job_code};
 
     ghost Value = { OneJob };
+
+    ghost coded = { job_code };
 
     ghost use Rattle.worker_job.specs.Inside.{job_of, IsKept};
 
     ghost view = { job_of };
 
-    ghost invariant = { IsKept };
+    ghost invariant = { λ j. IsKept j.workflow j.flow j.book j.saves };
 }
 
 impl Job {
@@ -148,8 +149,7 @@ impl Job {
 
     // The saves, and the tick at which they were read.
     pub(crate) fn cache(&self) -> Option<(&Cache, u64)>
-        ensures { option_map (λ c. (c.0.now, c.1)) result
-            ≡ option_map (λ c. (c.content, c.tick)) self.now.views.saves }
+        ensures { option_map (λ c. (c.0.now, c.1)) result ≡ kept_saves self.now.views.saves }
     {
         match self.saves() {
             None => None,
@@ -199,10 +199,7 @@ impl Job {
     {
         match &snapshot.key {
             Key::Workflow(_) => Ok(self.keep_flow(snapshot)),
-            Key::Pod(_, name) => {
-                let name = name.copy()?;
-                self.keep_pod(name, &snapshot)
-            }
+            Key::Pod(_, name) => self.keep_pod(name, &snapshot),
             Key::Locks => Ok(self.keep_book(snapshot)),
             Key::Caches => Ok(self.keep_saves(snapshot)),
         }
@@ -216,7 +213,7 @@ impl Job {
     {
         match key {
             Key::Pod(_, name) => {
-                self.looks.add(name.copy()?, None)?;
+                self.note(name.copy()?, None)?;
                 Ok(true)
             }
             _ => Ok(false),
@@ -224,11 +221,7 @@ impl Job {
     }
 
     /// The change was accepted, and its object is this.
-    pub fn did(
-        &mut self,
-        matter: &Matter,
-        snapshot: Snapshot<WfContent>,
-    ) -> Result<bool, Memory>
+    pub fn did(&mut self, matter: &Matter, snapshot: Snapshot<WfContent>) -> Result<bool, Memory>
         requires { snapshot.key ≡ key_of self.old.workflow (matter_told matter.now) }
         ensures after { IfOk result (λ on. Leaves on
             (after self.old.views (act (matter_told matter.now))
@@ -237,7 +230,7 @@ impl Job {
     {
         match matter {
             Matter::Submit(resubmission) => {
-                self.tried.push(resubmission.name.copy()?)?;
+                self.note_try(&resubmission.name)?;
                 Ok(true)
             }
             _ => self.found(snapshot),
@@ -252,18 +245,18 @@ impl Job {
     {
         match matter {
             Matter::Create(_, name) => {
-                let none = Looks::new(self.workflow.allocator());
-                let looks = mem::replace(&mut self.looks, none);
-                self.looks = looks.without(name)?;
+                self.forget(name)?;
                 Ok(true)
             }
             Matter::Submit(resubmission) => {
-                self.tried.push(resubmission.name.copy()?)?;
+                self.note_try(&resubmission.name)?;
                 Ok(true)
             }
             _ => Ok(false),
         }
     }
+
+    // ---- what was read becomes the view of its key, where it is of the key's kind
 
     fn keep_flow(&mut self, snapshot: Snapshot<WfContent>) -> bool
         requires { snapshot.key ≡ of_key.Workflow self.old.workflow }
@@ -272,12 +265,12 @@ impl Job {
             self.new.views }
         ensures workflow { self.new.workflow ≡ self.old.workflow }
     {
-        let is_workflow = snapshot.content.workflow().is_some();
-        if is_workflow {
-            self.flow = Some(snapshot);
-            self.saves = None;
+        if snapshot.content.workflow().is_some() {
+            self.set_flow(snapshot);
+            true
+        } else {
+            false
         }
-        is_workflow
     }
 
     fn keep_book(&mut self, snapshot: Snapshot<WfContent>) -> bool
@@ -287,11 +280,12 @@ impl Job {
             self.new.views }
         ensures workflow { self.new.workflow ≡ self.old.workflow }
     {
-        let is_book = snapshot.content.locks().is_some();
-        if is_book {
-            self.book = Some(snapshot);
+        if snapshot.content.locks().is_some() {
+            self.set_book(snapshot);
+            true
+        } else {
+            false
         }
-        is_book
     }
 
     fn keep_saves(&mut self, snapshot: Snapshot<WfContent>) -> bool
@@ -301,17 +295,17 @@ impl Job {
             self.new.views }
         ensures workflow { self.new.workflow ≡ self.old.workflow }
     {
-        let is_cache = snapshot.content.caches().is_some();
-        if is_cache {
-            self.saves = Some(snapshot);
+        if snapshot.content.caches().is_some() {
+            self.set_saves(snapshot);
+            true
+        } else {
+            false
         }
-        is_cache
     }
 
-    // A look at the pod of a name.
-    fn keep_pod(&mut self, name: Text, snapshot: &Snapshot<WfContent>) -> Result<bool, Memory>
+    fn keep_pod(&mut self, name: &Text, snapshot: &Snapshot<WfContent>) -> Result<bool, Memory>
         ensures after { IfOk result (λ on. Leaves on
-            (taken self.old.views (of_key.Pod self.old.workflow name)
+            (taken self.old.views (of_key.Pod self.old.workflow name.now)
             snapshot.now.version snapshot.now.tick snapshot.now.content)
             self.new.views) }
         ensures workflow { self.new.workflow ≡ self.old.workflow }
@@ -324,15 +318,84 @@ impl Job {
                     pod: pod.copy()?,
                     tick: snapshot.tick,
                 };
-                self.looks.add(name, Some(seen))?;
+                self.note(name.copy()?, Some(seen))?;
                 Ok(true)
             }
         }
     }
+
+    // ---- one change of what is kept
+
+    // The saves are to be read after the workflow.
+    fn set_flow(&mut self, snapshot: Snapshot<WfContent>)
+        requires key { snapshot.key ≡ of_key.Workflow self.old.workflow }
+        requires kind { is_some (flow_in (Some snapshot.content)) ≡ true }
+        ensures views { self.new.views
+            ≡ record self.old.views { flow = flow_seen snapshot; saves = None } }
+        ensures workflow { self.new.workflow ≡ self.old.workflow }
+    {
+        self.flow = Some(snapshot);
+        self.saves = None;
+    }
+
+    fn set_book(&mut self, snapshot: Snapshot<WfContent>)
+        requires key { snapshot.key ≡ of_key.Locks }
+        requires kind { is_some (locks_in (Some snapshot.content)) ≡ true }
+        ensures views { self.new.views ≡ record self.old.views { book = book_seen snapshot } }
+        ensures workflow { self.new.workflow ≡ self.old.workflow }
+    {
+        self.book = Some(snapshot);
+    }
+
+    fn set_saves(&mut self, snapshot: Snapshot<WfContent>)
+        requires key { snapshot.key ≡ of_key.Caches }
+        requires kind { is_some (caches_in (Some snapshot.content)) ≡ true }
+        ensures views { self.new.views ≡ record self.old.views { saves = saves_seen snapshot } }
+        ensures workflow { self.new.workflow ≡ self.old.workflow }
+    {
+        self.saves = Some(snapshot);
+    }
+
+    // A look at the pod of a name.
+    fn note(&mut self, name: Text, found: Option<SeenPod>) -> Result<(), Memory>
+        ensures views { OnOk result
+            (self.new.views ≡ with_look self.old.views name (option_map pod_told found)) }
+        ensures workflow { self.new.workflow ≡ self.old.workflow }
+    {
+        self.looks.add(name, found)
+    }
+
+    // The looks at the pod of a name are dropped.
+    fn forget(&mut self, name: &Text) -> Result<(), Memory>
+        ensures views { OnOk result (self.new.views ≡ record self.old.views {
+          pods = filter (λ l. not (is_look name.now l)) self.old.views.pods;
+        }) }
+        ensures workflow { self.new.workflow ≡ self.old.workflow }
+    {
+        let none = Looks::new(self.workflow.allocator());
+        let looks = mem::replace(&mut self.looks, none);
+        self.looks = looks.without(name)?;
+        Ok(())
+    }
+
+    // The resubmission of a name was tried.
+    fn note_try(&mut self, name: &Text) -> Result<(), Memory>
+        ensures views { OnOk result (self.new.views
+            ≡ record self.old.views { tried = name.now ∷ self.old.views.tried }) }
+        ensures workflow { self.new.workflow ≡ self.old.workflow }
+    {
+        let name = name.copy()?;
+        self.tried.push(name)
+    }
 }
 
 fn is_among(name: &Text, names: &[Text]) -> bool
-    ensures { result ≡ list_any (bytes_eq name.now) (reverse names.now) }
+    ensures { result ≡ list_any (bytes_eq name.now) names.now }
 {
-    names.iter().any(|tried| *name == *tried)
+    for tried in names {
+        if *name == *tried {
+            return true;
+        }
+    }
+    false
 }

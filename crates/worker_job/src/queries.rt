@@ -18,6 +18,7 @@ use tree_incr::{NodeTest, WantKind, WantTest};
 use tree_types::{LockId, Node, Outcome, Outputs, Path, Want};
 
 // A pod that was not looked at.
+#[derive(Clone, Copy)]
 struct Unlooked<'a> {
     reading: Reading<'a>,
 }
@@ -31,6 +32,7 @@ impl<'a> WantTest for Unlooked<'a> {
 }
 
 // A pod that finished.
+#[derive(Clone, Copy)]
 struct Finished<'a> {
     reading: Reading<'a>,
 }
@@ -44,6 +46,7 @@ impl<'a> WantTest for Finished<'a> {
 }
 
 // A lock that the book shows as held.
+#[derive(Clone, Copy)]
 struct Holding<'a> {
     reading: Reading<'a>,
 }
@@ -57,6 +60,7 @@ impl<'a> WantTest for Holding<'a> {
 }
 
 // A lock that the book does not know.
+#[derive(Clone, Copy)]
 struct Unknown<'a> {
     reading: Reading<'a>,
 }
@@ -70,6 +74,7 @@ impl<'a> WantTest for Unknown<'a> {
 }
 
 // A timer that the view's tick has reached.
+#[derive(Clone, Copy)]
 struct Reached<'a> {
     reading: Reading<'a>,
 }
@@ -83,6 +88,7 @@ impl<'a> WantTest for Reached<'a> {
 }
 
 // A pod that was noted as absent.
+#[derive(Clone, Copy)]
 struct Noted<'a> {
     reading: Reading<'a>,
 }
@@ -96,6 +102,7 @@ impl<'a> WantTest for Noted<'a> {
 }
 
 // What is not among the saves.
+#[derive(Clone, Copy)]
 struct Unsaved<'a> {
     reading: Reading<'a>,
     saves: &'a Cache,
@@ -110,6 +117,7 @@ impl<'a> WantTest for Unsaved<'a> {
 }
 
 // A suspended node that is resumed.
+#[derive(Clone, Copy)]
 struct Resumed<'a> {
     reading: Reading<'a>,
 }
@@ -123,6 +131,7 @@ impl<'a> NodeTest for Resumed<'a> {
 }
 
 // A node that is over and holds its lock.
+#[derive(Clone, Copy)]
 struct Kept<'a> {
     reading: Reading<'a>,
 }
@@ -211,10 +220,7 @@ impl<'a> Reading<'a> {
     }
 
     // The first that is to be saved and is not among the saves.
-    pub(crate) fn first_unsaved(
-        &self,
-        saves: &Cache,
-    ) -> Option<(&Path, &Text, &Text, &Outputs)>
+    pub(crate) fn first_unsaved(&self, saves: &Cache) -> Option<(&Path, &Text, &Text, &Outputs)>
         ensures { option_map
             (λ u. save u.1.now u.2.now (justified.key (reads.workflow self.now) u.0.now) u.3.now) result
             ≡ reads.asked self.now (reads.saving self.now saves.now) }
@@ -234,6 +240,9 @@ impl<'a> Reading<'a> {
         ensures { option_map (λ p. record_fact (fact.Resumed p.now)) result
             ≡ reads.first_node self.now (reads.resuming self.now) }
     {
+        if !self.may_resume() {
+            return None;
+        }
         let test = Resumed { reading: *self };
         match self.object.state().find_node(&test) {
             None => None,
@@ -246,6 +255,9 @@ impl<'a> Reading<'a> {
         ensures { option_map (λ k. release k.0.now (justified.key (reads.workflow self.now) k.1.now)) result
             ≡ reads.first_node self.now (reads.releasing self.now) }
     {
+        if self.job.book().is_none() {
+            return None;
+        }
         let test = Kept { reading: *self };
         match self.object.state().find_node(&test) {
             None => None,

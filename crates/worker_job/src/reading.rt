@@ -1,11 +1,14 @@
 //! A worker's views with the workflow among them, and what is asked of them.
 
-ghost use Rattle.std.specs.Prelude.{◌≡◌, Some, None, IfOk, option_copied, option_map, if◌then◌else◌};
+ghost use Rattle.std.specs.Prelude.{◌≡◌, [], Some, None, IfOk, option_copied, option_map, is_some, map};
 ghost use Rattle.tree_types.specs.declared.fact.Fact.TheVariants as fact;
 ghost use Rattle.tree_types.specs.declared.entry.Key.TheVariants as of_key;
+ghost use Rattle.std.specs.List.{list_any};
+ghost use Rattle.meaning.specs.Answers.{path};
 ghost use Rattle.law.specs.Justified as justified;
 ghost use Rattle.law.specs.Due.{record_fact, file, create, save, release, submit};
 ghost use Rattle.wf_object.specs.Documents.{command_of};
+ghost use Rattle.next_step.specs.Views.{first_given};
 ghost use Rattle.next_step.specs.Next as next;
 ghost use Rattle.next_step.specs.Next.{get};
 ghost use Rattle.worker_job.specs.Told.{resubmission_told};
@@ -23,7 +26,7 @@ use tree_types::{
     HolderKey, Kind, LockId, Node, Outcome, Outputs, Path, Phase, Rank, Want, fulfilled,
 };
 use wf_bundle::Document;
-use wf_manifest::Manifest;
+use wf_manifest::{Manifest, Template};
 use wf_object::{PodObject, WfObject};
 
 // The views of a job, where the workflow was read, and the document.
@@ -40,7 +43,13 @@ pub(crate) struct Reading<'a> {
 pub(crate) fn has_locks(manifest: &Manifest) -> bool
     ensures { result ≡ next.has_locks manifest.now }
 {
-    manifest.lock.is_some() || manifest.templates.iter().any(|template| template.lock.is_some())
+    manifest.lock.is_some() || has_template_locks(manifest.templates.as_slice())
+}
+
+fn has_template_locks(templates: &[Template]) -> bool
+    ensures { result ≡ list_any (λ template. is_some template.lock) templates.now }
+{
+    templates.iter().any(|template| template.lock.is_some())
 }
 
 impl<'a> Reading<'a> {
@@ -149,7 +158,9 @@ impl<'a> Reading<'a> {
         ensures { option_map (λ p. record_fact (fact.Granted p.now)) result
             ≡ reads.granting self.now want.now }
     {
-        let Want::Lock(path, _) = want else { return None };
+        let Want::Lock(path, _) = want else {
+            return None
+        };
         match self.standing(path) {
             Some((_, LockState::Holding)) => Some(path),
             _ => None,
@@ -157,25 +168,21 @@ impl<'a> Reading<'a> {
     }
 
     // The path of a lock that the book does not know, the lock, and the name of the path's node.
-    pub(crate) fn unknown<'b>(
-        &'b self,
-        want: &'b Want,
-    ) -> Option<(&'b Path, &'b LockId, &'b Text)>
+    pub(crate) fn unknown<'b>(&'b self, want: &'b Want) -> Option<(&'b Path, &'b LockId, &'b Text)>
         ensures { option_map
             (λ u. file u.1.now (justified.key (reads.workflow self.now) u.0.now)
             (justified.rank self.now.object.now.manifest u.0.now.sels u.2.now)) result
             ≡ reads.filing self.now want.now }
     {
-        let Want::Lock(path, lock) = want else { return None };
-        if self.job.locks().is_none() {
+        let Want::Lock(path, lock) = want else {
+            return None
+        };
+        if self.job.locks().is_none() || self.standing(path).is_some() {
             return None;
         }
-        match self.standing(path) {
-            Some(_) => None,
-            None => match self.name_at(path) {
-                None => None,
-                Some(name) => Some((path, lock, name)),
-            },
+        match self.name_at(path) {
+            None => None,
+            Some(name) => Some((path, lock, name)),
         }
     }
 
@@ -229,11 +236,16 @@ impl<'a> Reading<'a> {
 
     // Whether a command resumes what was armed then.
     fn is_resumed(&self, armed: u64) -> bool
-        ensures { result ≡ list_any
-            (next.resumes (reads.law self.now) (reads.workflow self.now) (reads.views self.now) (reads.flow self.now) armed)
-            (reads.law self.now).commands }
+        ensures { result ≡ list_any (reads.resumes self.now armed) (reads.law self.now).commands }
     {
-        for command in &self.document.commands {
+        self.any_resumes(armed, self.document.commands.as_slice())
+    }
+
+    fn any_resumes(&self, armed: u64, commands: &[Command]) -> bool
+        ensures { result
+            ≡ list_any (reads.resumes self.now armed) (map command_of commands.now) }
+    {
+        for command in commands {
             if self.resumes(armed, command) {
                 return true;
             }
@@ -241,10 +253,38 @@ impl<'a> Reading<'a> {
         false
     }
 
-    fn resumes(&self, armed: u64, command: &Command) -> bool
+    // Whether some command resumes nodes of this workflow.
+    pub(crate) fn may_resume(&self) -> bool
+        ensures { result ≡ list_any
+            (reads.is_resumption (reads.workflow self.now)) (reads.law self.now).commands }
+    {
+        self.any_resumption(self.document.commands.as_slice())
+    }
+
+    fn any_resumption(&self, commands: &[Command]) -> bool
+        ensures { result ≡ list_any
+            (reads.is_resumption (reads.workflow self.now)) (map command_of commands.now) }
+    {
+        for command in commands {
+            if self.is_resumption(command) {
+                return true;
+            }
+        }
+        false
+    }
+
+    fn is_resumption(&self, command: &Command) -> bool
         ensures { result
-            ≡ next.resumes (reads.law self.now) (reads.workflow self.now) (reads.views self.now) (reads.flow self.now) armed
-            (command_of command.now) }
+            ≡ reads.is_resumption (reads.workflow self.now) (command_of command.now) }
+    {
+        match command {
+            Command::Resume { tick: _, workflow } => *workflow == *self.job.workflow(),
+            Command::Resubmit { .. } => false,
+        }
+    }
+
+    fn resumes(&self, armed: u64, command: &Command) -> bool
+        ensures { result ≡ reads.resumes self.now armed (command_of command.now) }
     {
         match command {
             Command::Resume { tick, workflow } => {
@@ -271,12 +311,24 @@ impl<'a> Reading<'a> {
     // The lock that a path holds.
     pub(crate) fn held(&self, path: &Path) -> Option<&LockId>
         ensures { option_map (λ l. release l.now (justified.key (reads.workflow self.now) path.now)) result
-            ≡ next.release_held (reads.law self.now) (reads.workflow self.now) (reads.views self.now) (reads.flow self.now)
-            path.now (reads.request self.now path.now) }
+            ≡ reads.release_held self.now path.now }
     {
         match self.standing(path) {
             Some((lock, LockState::Holding)) => Some(lock),
             _ => None,
+        }
+    }
+
+    // The workflow's own lock, where it is over and holds it.
+    pub(crate) fn own_held(&self, root: &Path) -> Option<&LockId>
+        requires { root.now ≡ path [] }
+        ensures { option_map (λ l. release l.now (justified.key (reads.workflow self.now) (path []))) result
+            ≡ reads.release_own self.now }
+    {
+        if self.object.is_over() {
+            self.held(root)
+        } else {
+            None
         }
     }
 
@@ -325,5 +377,19 @@ impl<'a> Reading<'a> {
             memoized: *memoized,
             created: *created,
         }))
+    }
+
+    // The first of them.
+    pub(crate) fn first_untried(&self, commands: &[Command]) -> Result<Option<Resubmission>, Memory>
+        ensures { IfOk result (λ r. option_map (λ c. submit (resubmission_told c)) r
+            ≡ first_given (reads.submitting self.now) (map command_of commands.now)) }
+    {
+        for command in commands {
+            let untried = self.untried(command)?;
+            if untried.is_some() {
+                return Ok(untried);
+            }
+        }
+        Ok(None)
     }
 }

@@ -1,0 +1,6 @@
+mod Asked
+mod Wanted
+mod Chains
+mod Looking
+mod Walks
+mod Changed

@@ -1,0 +1,21 @@
+-- The first want of the kind.
+use Rattle.std.proofs.Common.{◌≡◌, ap, subst}
+use Rattle.std.specs.Prelude.{Some, None, IfOk, option_map}
+use Rattle.tree_state.specs.declared.kinds.WantKind.TheVariants as kind
+use Rattle.next_step.specs.Next.{Step, act}
+use Rattle.worker_job.specs.Readings as reads
+use Rattle.worker_job.specs.Readings.{step_told}
+use Rattle.worker_job.proofs.Wanted.{wanted_first, arming_each}
+use Rattle.worker_job.proofs.reading.Reading.arm.Goals as goal
+
+pub returns-in-None : goal.returns-in-None
+returns-in-None c =
+    let r = c.args.self.now in
+    ap (option_map act) (wanted_first r.object.now.manifest r.object.now.journal c.state.result.now kind.Arming (reads.arming r) None (arming_each r) c.state.ensures c.in-None.ensures)
+
+pub returns-in-Some : goal.returns-in-Some
+returns-in-Some c =
+    let r = c.args.self.now in
+    subst (λ (wanted : Step). IfOk c.arming.result (λ step. step_told step ≡ wanted))
+    (ap (option_map act) (wanted_first r.object.now.manifest r.object.now.journal c.state.result.now kind.Arming (reads.arming r) (Some c.in-Some.want.now) (arming_each r) c.state.ensures c.in-Some.ensures))
+    c.arming.ensures

@@ -1,0 +1,15 @@
+-- The saves that the view has answer.
+use Rattle.std.proofs.Common.{◌≡◌, subst}
+use Rattle.std.specs.Prelude.{IfOk}
+use Rattle.next_step.specs.Next.{Step}
+use Rattle.worker_job.specs.Readings as reads
+use Rattle.worker_job.specs.Readings.{step_told}
+use Rattle.worker_job.proofs.Wanted.{saves_there}
+use Rattle.worker_job.proofs.reading.Reading.save_by_saves.Goals as goal
+
+pub returns-in-Some : goal.returns-in-Some
+returns-in-Some c =
+    let r = c.args.self.now in
+    subst (λ (answer : Step). IfOk c.save_into.result (λ step. step_told step ≡ answer))
+    (saves_there r (reads.views r).saves c.in-Some.saves.now c.in-Some.field-0-1 (λ ss. reads.asked r (reads.saving r ss)) c.in-Some.ensures)
+    c.save_into.ensures
