@@ -4,3 +4,4 @@ mod Chains
 mod Looking
 mod Walks
 mod Changed
+mod OtherKinds
