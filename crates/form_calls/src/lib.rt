@@ -5,5 +5,3 @@
 mod documents;
 #[cfg(test)]
 mod evaluation;
-#[cfg(test)]
-mod found;
