@@ -1,0 +1,2 @@
+mod Seconds
+mod Kept

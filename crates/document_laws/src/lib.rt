@@ -1,0 +1,4 @@
+//! The laws of a document that was read.
+#![tactic(auto)]
+
+pub mod laws;

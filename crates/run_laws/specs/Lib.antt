@@ -1,0 +1,5 @@
+pub mod Whole
+pub mod Submissions
+pub mod Rounds
+pub mod Fulls
+pub mod Pods

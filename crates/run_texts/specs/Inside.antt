@@ -1,0 +1,3 @@
+-- What speaks only of private functions.
+pub mod Counting
+pub mod Trees

@@ -1,0 +1,13 @@
+//! The text of a run, read off the store at its end.
+#![tactic(auto)]
+
+mod counting;
+mod finding;
+mod large;
+mod shown;
+mod texts;
+mod trees;
+
+pub use large::too_large_text;
+pub use shown::Shown;
+pub use texts::run_text;
