@@ -105,7 +105,7 @@ pod_missed exists free = refl
 pod_missed (conflict a b) free = refl
 pod_missed fault free = refl
 
-pod_read : (s : Snapshot Content) → pod_of_reply (found (seen_in s)) ≡ pod_seen (Some s)
+pub pod_read : (s : Snapshot Content) → pod_of_reply (found (seen_in s)) ≡ pod_seen (Some s)
 pod_read s = by (pod_in (Some s.content))
   where
     by : (o : Option PodObject) → as_seen s.version s.tick o ≡ pod_by s o
@@ -160,7 +160,7 @@ module _ (D : Document) (job : PodJob) (seen : Story) (lag before : ℕ) (mid : 
 read_not_memory : (f : Result (Option (Snapshot Content)) RunFault) (x : Option (Snapshot Content)) → f ≡ Ok x → f ≢ Err faults.Memory
 read_not_memory f x is e = cc
 
-same_fault : (f : Result (Option (Snapshot Content)) RunFault) (x y : RunFault) → f ≡ Err x → f ≡ Err y → x ≡ y
+pub same_fault : (f : Result (Option (Snapshot Content)) RunFault) (x y : RunFault) → f ≡ Err x → f ≡ Err y → x ≡ y
 same_fault f x y a b = cc
 
 module _ (D : Document) (w n : Text) (job : PodJob) (same_w : job.workflow ≡ w) (same_n : job.node ≡ n) (known : Story) (lag before : ℕ) (mid : Story) (lag_mid middle : ℕ) (no_lag : lag ≡ 0) (f : Result (Option (Snapshot Content)) RunFault) (made : f ≢ Err faults.Memory → ReadMade job known lag before f mid lag_mid middle) where

@@ -5,3 +5,4 @@ pub mod Stepping
 pub mod Running
 pub mod Keeping
 pub mod Alone
+pub mod WholeJobs

@@ -8,13 +8,12 @@ ghost use Rattle.run_laws.specs.Whole.{Ran};
 ghost use Rattle.wf_object.specs.Documents.{law_of};
 ghost use Rattle.wf_object.specs.Kept.{begins, justified};
 ghost use Rattle.pod_runner.specs.declared.answers.RunFault.TheVariants as faults;
-ghost use Rattle.pod_runner.specs.WholeJobs.{told_of, RoseSince};
+ghost use Rattle.pod_runner.specs.WholeJobs.{told_of, JobMade, RoseSince};
 
 use crate::calls::{end, read};
 use crate::runner::PodJob;
 use crate::{RunDone, RunFault};
 use base_types::{Text, TryCopy};
-use std::alloc::Global;
 use store_client::Client;
 use wf_bundle::Document;
 use wf_object::WfContent;
@@ -24,7 +23,6 @@ use wf_object::WfContent;
 /// Conflict only where the pod moved on from the version that was read; Fault only where the client's faults rose. Where
 /// nobody else calls the store, and the client has no lag, the job ran as one that nobody disturbs.
 pub fn run_pod<C: Client<WfContent>>(
-    _alloc: Global,
     client: &mut C,
     workflow: &Text,
     node: &Text,
@@ -33,6 +31,9 @@ pub fn run_pod<C: Client<WfContent>>(
     requires law { C.law client.old ≡ document.now }
     ensures leaves { LeavesClient
         begins justified C.seen C.law C.place C.faults client.old client.new }
+    ensures made { result ≢ Err faults.Memory → JobMade
+        (law_of document.now) (record { workflow = workflow.now; node = node.now }) (C.seen client.old) (C.lag client.old)
+        (C.others client.old) result (C.seen client.new) (C.others client.new) }
     ensures fault { result ≡ Err faults.Fault → RoseSince
         (LeavesClient begins justified C.seen C.law C.place C.faults) C.rose client.old client.new
         × Rose (C.faults client.old) (C.faults client.new) }

@@ -27,10 +27,16 @@ use wf_manifest::Manifest;
 
 /// The tree of a workflow as its calls made it, and the phase of the workflow. Contracts see what they
 /// made and the phase.
-#[derive(Drop)]
 pub struct WorkflowTree {
     pub(crate) tops: Tops,
     pub(crate) phase: Phase,
+}
+
+// Written out, so that proofs about code that drops a tree see one call.
+impl Drop for WorkflowTree {
+    fn drop(self) {
+        let WorkflowTree { tops: _, phase: _ } = self;
+    }
 }
 
 impl Model for WorkflowTree {

@@ -28,12 +28,23 @@ use wf_manifest::Manifest;
 /// the facts.
 ///
 /// A fact is added to a copy, so that older states of the workflow stay as they were. Copies share what they have in common.
-#[derive(Drop)]
 pub struct TreeState {
     valid: Arc<Valid>,
     positions: Arc<Positions>,
     facts: SharedFacts,
     pub(crate) tree: Arc<WorkflowTree>,
+}
+
+// Written out, so that proofs about code that drops a state see one call.
+impl Drop for TreeState {
+    fn drop(self) {
+        let TreeState {
+            valid: _,
+            positions: _,
+            facts: _,
+            tree: _,
+        } = self;
+    }
 }
 
 impl Model for TreeState {

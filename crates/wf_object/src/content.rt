@@ -15,7 +15,6 @@ use tree_types::Entry;
 use wf_bundle::Document;
 
 /// What the store keeps under a key: a workflow, a pod, the lock book, or the caches. Contracts see it as the law has it.
-#[derive(Drop)]
 pub struct WfContent {
     held: Held,
 }
@@ -26,6 +25,13 @@ enum Held {
     Pod(PodObject),
     Locks(LockBook),
     Caches(Cache),
+}
+
+// Written out, so that proofs about code that drops a content see one call.
+impl Drop for WfContent {
+    fn drop(self) {
+        let WfContent { held: _ } = self;
+    }
 }
 
 impl Model for WfContent {

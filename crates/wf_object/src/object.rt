@@ -24,11 +24,17 @@ use wf_manifest::Manifest;
 /// A workflow: its manifest, its journal, and the tree of the two. Contracts see it as the law has it.
 ///
 /// A fact is added to a copy; copies share what they have in common.
-#[derive(Drop)]
 pub struct WfObject {
     // The manifest once more, with what a resubmission needs of it.
     valid: Arc<Valid>,
     state: TreeState,
+}
+
+// Written out, so that proofs about code that drops a workflow see one call.
+impl Drop for WfObject {
+    fn drop(self) {
+        let WfObject { valid: _, state: _ } = self;
+    }
 }
 
 impl Model for WfObject {

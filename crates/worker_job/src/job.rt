@@ -36,7 +36,6 @@ pub(crate) struct SeenPod {
 }
 
 /// A worker's job on one workflow. Contracts see the workflow's name, and what was read and noted so far.
-#[derive(Drop)]
 pub struct Job {
     workflow: Text,
     flow: Option<Snapshot<WfContent>>,
@@ -45,6 +44,20 @@ pub struct Job {
     looks: Looks<SeenPod>,
     // The names of the resubmissions that were tried, the last one last.
     tried: Names,
+}
+
+// Written out, so that proofs about code that drops a job see one call.
+impl Drop for Job {
+    fn drop(self) {
+        let Job {
+            workflow: _,
+            flow: _,
+            book: _,
+            saves: _,
+            looks: _,
+            tried: _,
+        } = self;
+    }
 }
 
 impl Model for Job {
