@@ -2,11 +2,11 @@
 #![tactic(auto)]
 
 use base_types::{Memory, Names, Text};
-use io_edge::{StdSink, StdSource};
+use io_edge::{NoOutage, StdSink, StdSource};
 use std::env;
 use std::io::ErrorKind;
 use std::process::ExitCode;
-use wf_program::{Status, argo};
+use wf_program::{Ended, Status, argo};
 
 /// The words behind the program's name. An argument that is not UTF-8 is a word of no command, and then there are no words.
 fn words(rt: &HostRuntime) -> Result<Names, Memory> {
@@ -28,7 +28,15 @@ fn main(rt: HostRuntime) -> ExitCode {
         Ok(words) => {
             let mut source = StdSource::new(rt.stdin());
             let mut sink = StdSink::new(rt.stdout());
-            argo(rt.alloc(), words.as_slice(), &mut source, &mut sink)
+            let mut ended = Ended::new();
+            argo(
+                rt.alloc(),
+                words.as_slice(),
+                &mut source,
+                &mut sink,
+                NoOutage,
+                &mut ended,
+            )
         }
         Err(Memory) => Status::Memory,
     };

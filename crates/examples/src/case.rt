@@ -2,9 +2,9 @@
 
 use crate::outcome::Outcome;
 use base_types::{Bytes, Memory, Names, Text};
-use io_edge::{CallNumbers, MemSink, MemSource};
+use io_edge::{CallNumbers, MemSink, MemSource, PlannedOutage};
 use std::alloc::Global;
-use wf_program::argo;
+use wf_program::{Ended, argo};
 
 /// A run over memory, and how it has to end.
 #[derive(Drop)]
@@ -16,13 +16,14 @@ pub(crate) struct Case {
     pub(crate) expected: Outcome,
 }
 
-/// What the source and the sink do besides giving and taking: the read that fails, the write that fails, and how many
-/// bytes the sink takes in all.
+/// What the source, the sink and the store do besides giving and taking: the read that fails, the write that fails, how many
+/// bytes the sink takes in all, and the calls of the store that fail.
 #[derive(Drop)]
 pub(crate) struct Edges {
     pub(crate) read_fault: CallNumbers,
     pub(crate) write_fault: CallNumbers,
     pub(crate) write_room: usize,
+    pub(crate) outage: CallNumbers,
 }
 
 // How many bytes a write takes at most.
@@ -38,7 +39,15 @@ impl Case {
         let write_fault = CallNumbers::from_slice(alloc, edges.write_fault.as_slice())?;
         let mut source = MemSource::new(input, piece, read_fault);
         let mut sink = MemSink::new(alloc, edges.write_room, WRITE_PIECE, write_fault)?;
-        let status = argo(alloc, self.words.as_slice(), &mut source, &mut sink);
+        let failing = CallNumbers::from_slice(alloc, edges.outage.as_slice())?;
+        let status = argo(
+            alloc,
+            self.words.as_slice(),
+            &mut source,
+            &mut sink,
+            PlannedOutage::new(failing),
+            &mut Ended::new(),
+        );
         Ok(Outcome {
             status: u64::from(status.code()),
             output: Bytes::from_slice(alloc, sink.bytes())?,

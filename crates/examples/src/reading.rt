@@ -6,11 +6,12 @@ use crate::outcome::Outcome;
 use crate::refused::CasesRefused;
 use crate::wide::wide_document;
 use base_types::{Bytes, Text};
+use io_edge::CallNumbers;
 use serde_json::Value;
 use std::alloc::Global;
 
 // The members that a case may have.
-const MEMBERS: [&str; 10] = [
+const MEMBERS: [&str; 11] = [
     "name",
     "words",
     "input",
@@ -19,6 +20,7 @@ const MEMBERS: [&str; 10] = [
     "read_fault",
     "write_fault",
     "write_room",
+    "outage",
     "status",
     "output",
 ];
@@ -47,6 +49,24 @@ fn wide_of(alloc: Global, counts: &[Value]) -> Result<Bytes, CasesRefused> {
     Ok(wide_document(alloc, groups, steps)?)
 }
 
+// The calls of the store that fail: from the first of two numbers to the second. Without them none fails.
+fn outage_of(alloc: Global, case: &Value) -> Result<CallNumbers, CasesRefused> {
+    let member = "outage";
+    let mut failing = CallNumbers::new(alloc);
+    if case.get(member).is_none() {
+        return Ok(failing);
+    }
+    let [first, last] = list_of(case, member)? else {
+        return Err(CasesRefused::Member { member });
+    };
+    let first = first.as_u64().ok_or(CasesRefused::Member { member })?;
+    let last = last.as_u64().ok_or(CasesRefused::Member { member })?;
+    for call in first..=last {
+        failing.push(call)?;
+    }
+    Ok(failing)
+}
+
 // The input: a text as it is, another JSON value in its compact text, or a wide document.
 fn written_input(alloc: Global, case: &Value) -> Result<Bytes, CasesRefused> {
     match case.get("input") {
@@ -72,6 +92,7 @@ fn edges_of(alloc: Global, case: &Value) -> Result<Edges, CasesRefused> {
         read_fault: call_of(alloc, case, "read_fault")?,
         write_fault: call_of(alloc, case, "write_fault")?,
         write_room: room as usize,
+        outage: outage_of(alloc, case)?,
     })
 }
 

@@ -1,3 +1,4 @@
-mod Within
-mod Ended
-mod Turns
+pub mod Ends
+pub mod Refusing
+pub mod Sizes
+pub mod Submitting

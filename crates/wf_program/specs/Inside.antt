@@ -1,2 +1,2 @@
+-- What speaks only of private code.
 pub mod Ends
-pub mod Trees

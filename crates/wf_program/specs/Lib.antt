@@ -1,13 +1,11 @@
 pub mod Statuses
-pub mod Forms
 pub mod Answers
 pub mod Runs
 pub mod Inside
 pub use Rattle.base_types.specs.Limits
 pub use Rattle.io_edge.specs.Cause
 pub use Rattle.io_edge.specs.Transfer
-pub use Rattle.tree_types.specs.Texts
-pub use Rattle.meaning.specs.Plain
 pub use Rattle.command_words.specs.Orders
 pub use Rattle.wf_bundle.specs.Documents
-pub use Rattle.wf_bundle.specs.Outcomes
+pub use Rattle.run_texts.specs.RunTexts
+pub use Rattle.sim_schedule.specs.Sweeping

@@ -1,23 +1,33 @@
 -- What a whole run did, by the status that it answers. All of it is this project's own.
-use Rattle.std.specs.Prelude.{◌≡◌, ◌⊎◌, ℕ, ◌+◌, ◌≤◌, List, length, Bool, true, false, IsUtf8}
+use Rattle.std.specs.Prelude.{◌≡◌, ◌≢◌, ◌⊎◌, ℕ, ◌+◌, ◌≤◌, List, [], ◌∷◌, ◌++◌, length, Bool, true, false, Ok}
 use Rattle.std.specs.Io.KnownBytes.{Appends, Consumes, IsAtEnd}
 use Rattle.std.specs.declared.option.Option.{Option}
 use Rattle.std.specs.declared.option.Option.TheVariants.{Some, None}
-use Rattle.serde_json.specs.Data.{Data}
-use Rattle.serde_json.specs.Read.{read}
 use Rattle.base_types.specs.Limits.{longest_input}
 use Rattle.io_edge.specs.Cause.{Rose}
 use Rattle.io_edge.specs.Transfer.{StoppedAt}
+use Rattle.history.specs.History.{Extends}
+use Rattle.object_store.specs.Stored.{most_faults}
+use Rattle.law.specs.Documents as law
+use Rattle.law.specs.Contents.{Story}
+use Rattle.law.specs.Justified.{IsLawful}
+use Rattle.law.specs.Due.{IsPaced}
+use Rattle.run_laws.specs.Submissions.{begun}
+use Rattle.sim_schedule.specs.Sweeping.{IsOver}
+use Rattle.run_texts.specs.declared.shown.Shown.{Shown}
+use Rattle.run_texts.specs.RunTexts.{run_text, too_large_text}
 use Rattle.command_words.specs.declared.order.Mode.{Mode}
 use Rattle.command_words.specs.declared.order.Mode.TheVariants as mode
 use Rattle.command_words.specs.declared.order.Order.{Order}
 use Rattle.command_words.specs.Orders.{order_of}
-use Rattle.wf_program.specs.declared.answered.Answered.{Answered}
-use Rattle.wf_program.specs.declared.answered.Answered.TheVariants as answer
+use Rattle.wf_bundle.specs.declared.document.Document.{Document}
+use Rattle.wf_bundle.specs.Documents.{document_of}
+use Rattle.generator.specs.Bundles.{bundle, bundle_text}
+use Rattle.wf_object.specs.Documents.{law_of}
 use Rattle.wf_program.specs.declared.status.Status.{Status}
-use Rattle.wf_program.specs.declared.status.Status.TheVariants.{Done, Usage, ReadFault, WriteFault, NotJson, Refused, TooLarge, Memory, TooLong, NotBuilt}
-use Rattle.wf_program.specs.Statuses.{fixed_text, not_json_text}
-use Rattle.wf_program.specs.Answers.{answer_to}
+use Rattle.wf_program.specs.declared.status.Status.TheVariants.{Done, Usage, ReadFault, WriteFault, NotJson, Refused, StoreFault, TooLarge, Memory, TooLong, NotBuilt}
+use Rattle.wf_program.specs.Statuses.{fixed_text}
+use Rattle.wf_program.specs.Answers.{IsDocument, Answers}
 
 -- ---- what is seen of a run
 
@@ -29,10 +39,17 @@ pub record Edge : Type 0 where
   pub faults_before : ℕ
   pub faults_after : ℕ
 
+-- the store of a run at its end: its history, and how many of its last calls in a row failed
+pub record Kept : Type 0 where
+  pub history : Story
+  pub row : ℕ
+
+-- the store is there only where one was made
 pub record Run : Type 0 where
   pub words : List (List ℕ)
   pub source : Edge
   pub sink : Edge
+  pub store : Option Kept
 
 -- a call failed in this run
 abbrev pub SomeFailed : Edge → Type 0
@@ -68,68 +85,115 @@ pub record HasReadAll (words : List (List ℕ)) (source : Edge) (order : Order) 
   pub bound : length input ≤ longest_input
   pub unfailed : NoneFailed source
 
--- the bytes are the text of this JSON value, as `serde_json` reads it
-abbrev pub IsJsonOf : List ℕ → Data → Type 0
-IsJsonOf bytes value = IsUtf8 bytes × (read bytes ≡ Some value)
-
--- the bytes are the text of no JSON value
-abbrev pub IsNoJson : List ℕ → Type 0
-IsNoJson bytes = IsUtf8 bytes → read bytes ≡ None
-
--- all of the input was read, it is the text of a JSON value, and this is the answer to it
-pub record HasAnswer (words : List (List ℕ)) (source : Edge) (answered : Answered) : Type 0 where
+-- all was read, and so it is answered
+pub record IsAnswered (words : List (List ℕ)) (source : Edge) (status : Status) (text : List ℕ) : Type 0 where
   pub order : Order
   pub input : List ℕ
-  pub value : Data
   pub read : HasReadAll words source order input
-  pub json : IsJsonOf input value
-  pub answer : answered ≡ answer_to order value
+  pub answers : Answers order input status text
 
--- the words say an order that reads no input, and nothing was read
-pub record HasNoInput (words : List (List ℕ)) (source : Edge) : Type 0 where
-  pub order : Order
+-- the words say an order to make a document by a number, and nothing was read
+pub record Generates (words : List (List ℕ)) (source : Edge) (order : Order) : Type 0 where
   pub said : order_of words ≡ Some order
-  pub reads : reads_input order.mode ≡ false
+  pub mode : order.mode ≡ mode.Generate
   pub untouched : IsUntouched source
 
--- ---- how a run ends
+-- ---- the document that is run
 
--- Why a run ends with this status, and the text of its end.
-abbrev pub Ends : List (List ℕ) → Edge → Status → List ℕ → Type 0
+abbrev pub shown : Bool → Bool → Shown
+shown summary history = record { summary = summary; history = history }
+
+-- the document that was read, of which the words say what is shown
+pub record IsRead (words : List (List ℕ)) (source : Edge) (D : Document) (s : Shown) : Type 0 where
+  pub order : Order
+  pub input : List ℕ
+  pub read : HasReadAll words source order input
+  pub mode : order.mode ≡ mode.Run
+  pub document : IsDocument input D
+  pub shows : s ≡ shown order.summary order.history
+
+-- the document that was made, of which the summary is shown
+pub record IsMade (words : List (List ℕ)) (source : Edge) (D : Document) (s : Shown) : Type 0 where
+  pub order : Order
+  pub generates : Generates words source order
+  pub itself : order.bundle ≡ false
+  pub document : document_of (bundle order.seed order.size) ≡ Ok D
+  pub shows : s ≡ shown true false
+
+abbrev pub IsToRun : List (List ℕ) → Edge → Document → Shown → Type 0
+IsToRun words source D s = IsRead words source D s ⊎ IsMade words source D s
+
+-- ---- a run over a store
+
+-- The run of a document over a new store: its history is lawful, begins with the submissions of the workflows in their order,
+-- and keeps the pace; nothing is due at its end, nor at a later tick, but in these workflows, which are full.
+pub record Ran (D : law.Document) (h : Story) (full : List (List ℕ)) : Type 0 where
+  pub lawful : IsLawful D h
+  pub begins : Extends h (begun D D.workflows)
+  pub paced : IsPaced D 0 h
+  pub over : IsOver D h full
+
+-- how such a run ended, by its status
+abbrev pub RunEnds : Document → Shown → Kept → Status → List ℕ → Type 0
+-- Nothing is due. The text shows the run.
+RunEnds D s k Done text = Ran (law_of D) k.history [] × (text ≡ run_text s.summary s.history k.history)
+-- Nothing is due but in these workflows. The text shows the run, and names them.
+RunEnds D s k TooLarge text = (full : List (List ℕ)) × Ran (law_of D) k.history full × (full ≢ [])
+    × (text ≡ run_text s.summary s.history k.history ++ too_large_text full)
+-- The last sixteen calls of the store failed. What it keeps is lawful.
+RunEnds D s k StoreFault text =
+    IsLawful (law_of D) k.history × (k.row ≡ most_faults) × (text ≡ fixed_text StoreFault)
+-- Memory was wanting. What the store keeps is lawful.
+RunEnds D s k Memory text = IsLawful (law_of D) k.history × (text ≡ fixed_text Memory)
+RunEnds D s k _ text = ⊥
+
+-- a store was made of the document that was to be run, and the run ended so
+pub record HasRun (words : List (List ℕ)) (source : Edge) (k : Kept) (status : Status) (text : List ℕ) : Type 0 where
+  pub document : Document
+  pub shows : Shown
+  pub runs : IsToRun words source document shows
+  pub ends : RunEnds document shows k status text
+
+-- ---- ends without a store
+
+abbrev pub EndsBefore : List (List ℕ) → Edge → Status → List ℕ → Type 0
 -- 2: The words are not of the command. Nothing is read.
-Ends words source Usage text = (order_of words ≡ None) × IsUntouched source × (text ≡ fixed_text Usage)
+EndsBefore words source Usage text = (order_of words ≡ None) × IsUntouched source × (text ≡ fixed_text Usage)
 -- 3: A read failed, behind so many bytes.
-Ends words source ReadFault text = (order : Order) × (input : List ℕ) × HasRead words source order input
+EndsBefore words source ReadFault text = (order : Order) × (input : List ℕ) × HasRead words source order input
     × (length input ≤ longest_input) × SomeFailed source × (text ≡ fixed_text ReadFault)
 -- 10: One byte more was read than an input may have, and no read failed.
-Ends words source TooLong text = (order : Order) × (input : List ℕ) × HasRead words source order input
+EndsBefore words source TooLong text = (order : Order) × (input : List ℕ) × HasRead words source order input
     × (length input ≡ longest_input + 1) × NoneFailed source × (text ≡ fixed_text TooLong)
--- 5: All was read, and it is the text of no JSON value.
-Ends words source NotJson text = (order : Order) × (input : List ℕ) × HasReadAll words source order input
-    × IsNoJson input × (text ≡ not_json_text (length input))
--- 6: All was read, and it is a document that breaks a rule. The text is its first refusal.
-Ends words source Refused text = HasAnswer words source (answer.Refused text)
--- 20: What is asked for is not built yet: of no input, or of the document that was read.
-Ends words source NotBuilt text =
-    (HasNoInput words source ⊎ HasAnswer words source answer.NotBuilt) × (text ≡ fixed_text NotBuilt)
--- 8: All was read, and it is a document of which a tree is too large. The text says of which workflows.
-Ends words source TooLarge text = HasAnswer words source (answer.TooLarge text)
--- 0: All was read, and it is a document whose answer is the text.
-Ends words source Done text = HasAnswer words source (answer.Done text)
+-- 5, 6, 20: All was read, and it is the text of no JSON value, or of a value that breaks a rule, or of a document whose
+-- schedule is to be followed, which is not built yet.
+EndsBefore words source NotJson text = IsAnswered words source NotJson text
+EndsBefore words source Refused text = IsAnswered words source Refused text
+EndsBefore words source NotBuilt text = IsAnswered words source NotBuilt text
+-- 0: All was read, and it is a document, of which the number of workflows is asked for; or nothing was read, and the text is
+-- that of the document that is made by a number.
+EndsBefore words source Done text =
+    IsAnswered words source Done text
+    ⊎ ((order : Order) × Generates words source order × (order.bundle ≡ true)
+    × (text ≡ bundle_text order.seed order.size ++ 10 ∷ []))
 -- 9: Memory was wanting, behind so many bytes, and no read failed.
-Ends words source Memory text = (input : List ℕ) × Consumes source.bytes_before source.bytes_after input
+EndsBefore words source Memory text = (input : List ℕ) × Consumes source.bytes_before source.bytes_after input
     × (length input ≤ longest_input) × NoneFailed source × (text ≡ fixed_text Memory)
--- 4: This is no end, but what is answered in its place.
-Ends words source WriteFault text = ⊥
+EndsBefore words source _ text = ⊥
 
 -- ---- what a run did
 
+-- a run ends without a store, or as its store has run
+abbrev pub Ends : List (List ℕ) → Edge → Option Kept → Status → List ℕ → Type 0
+Ends words source None status text = EndsBefore words source status text
+Ends words source (Some k) status text = HasRun words source k status text
+
 -- What a run did that answers this status.
-abbrev pub Ran : Run → Status → Type 0
+abbrev pub Did : Run → Status → Type 0
 -- 4: It ended with another status, a write failed, and of its text only a start is written.
-Ran run WriteFault = (status : Status) × (text : List ℕ) × (count : ℕ)
-    × Ends run.words run.source status text × SomeFailed run.sink
+Did run WriteFault = (status : Status) × (text : List ℕ) × (count : ℕ)
+    × Ends run.words run.source run.store status text × SomeFailed run.sink
     × StoppedAt run.sink.bytes_before run.sink.bytes_after text count
 -- Else it ended with this status, its text is written whole, and no write failed.
-Ran run status = (text : List ℕ) × Ends run.words run.source status text
+Did run status = (text : List ℕ) × Ends run.words run.source run.store status text
     × NoneFailed run.sink × Appends run.sink.bytes_before run.sink.bytes_after text

@@ -1,7 +1,7 @@
 -- The exit status of each end of a run, and its text. All of it is this project's own.
 use Rattle.std.specs.Prelude.{ℕ, List, [], ◌++◌, codes, decimal}
 use Rattle.wf_program.specs.declared.status.Status.{Status}
-use Rattle.wf_program.specs.declared.status.Status.TheVariants.{Done, Usage, ReadFault, WriteFault, NotJson, Refused, TooLarge, Memory, TooLong, NotBuilt}
+use Rattle.wf_program.specs.declared.status.Status.TheVariants.{Done, Usage, ReadFault, WriteFault, NotJson, Refused, StoreFault, TooLarge, Memory, TooLong, NotBuilt}
 
 abbrev pub code_of : Status → ℕ
 code_of Done = 0
@@ -10,6 +10,7 @@ code_of ReadFault = 3
 code_of WriteFault = 4
 code_of NotJson = 5
 code_of Refused = 6
+code_of StoreFault = 7
 code_of TooLarge = 8
 code_of Memory = 9
 code_of TooLong = 10
@@ -20,6 +21,7 @@ code_of NotBuilt = 20
 abbrev pub fixed_text : Status → List ℕ
 fixed_text Usage = codes "argo: usage: argo run/simulate/check/generate [options]\n"
 fixed_text ReadFault = codes "argo: read fault\n"
+fixed_text StoreFault = codes "argo: store fault\n"
 fixed_text Memory = codes "argo: out of memory\n"
 fixed_text TooLong = codes "argo: input too long\n"
 fixed_text NotBuilt = codes "argo: not built yet\n"

@@ -1,15 +1,14 @@
-//! The top call of the program, over any source of bytes and any sink: words and bytes in, text and a status out.
+//! The top call of the program, over any source of bytes, any sink and any outage: words and bytes in, text and a status out.
 #![tactic(auto)]
 
-mod answered;
-mod answers;
-mod forms;
-mod judge;
-mod planned;
+mod asked;
+mod documents;
+mod ended;
+mod run;
 mod status;
+mod texts;
 mod top;
-mod trees;
 
-use answered::Answered;
+pub use ended::Ended;
 pub use status::Status;
 pub use top::argo;

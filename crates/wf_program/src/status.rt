@@ -21,7 +21,9 @@ pub enum Status {
     NotJson,
     /// The document breaks a rule.
     Refused,
-    /// A tree has more than 10,000 nodes.
+    /// The store failed at sixteen calls in a row.
+    StoreFault,
+    /// Some workflow's next tree would have more than 10,000 nodes.
     TooLarge,
     Memory,
     /// The input has more than 16,777,216 bytes.
@@ -42,6 +44,7 @@ impl Status {
             Status::WriteFault => 4,
             Status::NotJson => 5,
             Status::Refused => 6,
+            Status::StoreFault => 7,
             Status::TooLarge => 8,
             Status::Memory => 9,
             Status::TooLong => 10,
@@ -61,6 +64,7 @@ impl Status {
             | Status::TooLarge => b"",
             Status::Usage => b"argo: usage: argo run/simulate/check/generate [options]\n",
             Status::ReadFault => b"argo: read fault\n",
+            Status::StoreFault => b"argo: store fault\n",
             Status::Memory => b"argo: out of memory\n",
             Status::TooLong => b"argo: input too long\n",
             Status::NotBuilt => b"argo: not built yet\n",

@@ -1,19 +1,36 @@
 -- The parts of a run, as the functions below the top call see them.
-use Rattle.std.specs.Prelude.{◌≡◌, ◌⊎◌, ℕ, List, length}
+use Rattle.std.specs.Prelude.{◌≡◌, ◌≢◌, ◌⊎◌, ℕ, List, [], ◌∷◌, ◌++◌, true, false, Ok as Found, Err as Broken}
+use Rattle.serde_json.specs.Data.{Data}
+use Rattle.std.specs.declared.option.Option.{Option}
+use Rattle.std.specs.declared.option.Option.TheVariants.{Some, None}
 use Rattle.std.specs.declared.result.Result.{Result}
 use Rattle.std.specs.declared.result.Result.TheVariants.{Ok, Err}
-use Rattle.serde_json.specs.Data.{Data}
 use Rattle.std.specs.Io.KnownBytes.{Appends}
 use Rattle.io_edge.specs.Transfer.{StoppedAt}
+use Rattle.object_store.specs.Stored.{Stored, most_faults}
+use Rattle.law.specs.Contents.{Content}
+use Rattle.law.specs.Justified.{IsLawful}
+use Rattle.lawful.specs.Manifests.{HasValidWorkflows}
+use Rattle.run_laws.specs.Submissions.{NamesDiffer}
+use Rattle.bundle_rules.specs.Findings.{Refused}
+use Rattle.wf_bundle.specs.Documents.{document_of}
+use Rattle.generator.specs.Bundles.{bundle, bundle_text}
+use Rattle.wf_object.specs.Documents.{law_of}
+use Rattle.sim_schedule.specs.declared.end.RunEnd.{RunEnd}
+use Rattle.sim_schedule.specs.declared.end.RunEnd.TheVariants as end
+use Rattle.command_words.specs.declared.order.Mode.TheVariants as mode
 use Rattle.command_words.specs.declared.order.Order.{Order}
-use Rattle.wf_program.specs.declared.answered.Answered.{Answered}
-use Rattle.wf_program.specs.declared.answered.Answered.TheVariants as answer
-use Rattle.wf_program.specs.declared.judge.Made.{Made}
+use Rattle.run_texts.specs.declared.shown.Shown.{Shown}
+use Rattle.wf_bundle.specs.declared.document.Document.{Document}
+use Rattle.wf_program.specs.declared.asked.Asked.{Asked}
+use Rattle.wf_program.specs.declared.asked.Asked.TheVariants as asked
+use Rattle.wf_program.specs.declared.texts.Made.{Made}
 use Rattle.wf_program.specs.declared.status.Status.{Status}
-use Rattle.wf_program.specs.declared.status.Status.TheVariants.{Done, WriteFault, NotJson, Refused, TooLarge, Memory, NotBuilt}
-use Rattle.wf_program.specs.Statuses.{fixed_text, not_json_text}
-use Rattle.wf_program.specs.Answers.{answer_to}
-use Rattle.wf_program.specs.Runs.{Edge, SomeFailed, NoneFailed, IsJsonOf, IsNoJson}
+use Rattle.wf_program.specs.declared.status.Status.TheVariants.{Done, NotBuilt, Memory, WriteFault}
+use Rattle.wf_program.specs.declared.status.Status.TheVariants as status
+use Rattle.wf_program.specs.Statuses.{fixed_text}
+use Rattle.wf_program.specs.Answers.{IsDocument, Answers, valid_text, refused_text}
+use Rattle.wf_program.specs.Runs.{Edge, Kept, SomeFailed, NoneFailed, EndsBefore, IsToRun, shown, Ran, RunEnds}
 
 -- the status of an end whose text was made or is fixed
 abbrev pub status_in : Result Made Status → Status
@@ -25,21 +42,80 @@ abbrev pub text_in : Result Made Status → List ℕ
 text_in (Ok made) = made.text
 text_in (Err status) = fixed_text status
 
--- the input is the text of a JSON value, and this is the answer to it
-pub record IsAnswered (order : Order) (input : List ℕ) (answered : Answered) : Type 0 where
-  pub value : Data
-  pub json : IsJsonOf input value
-  pub answer : answered ≡ answer_to order value
+abbrev pub kept_of : {O : Type 0} → Stored Content O → Kept
+kept_of s = record { history = s.history; row = s.row }
 
--- why a run that has read this whole input ends with this status, and the text of its end
-abbrev pub Judged : Order → List ℕ → Status → List ℕ → Type 0
-Judged order input NotJson text = IsNoJson input × (text ≡ not_json_text (length input))
-Judged order input Refused text = IsAnswered order input (answer.Refused text)
-Judged order input NotBuilt text = IsAnswered order input answer.NotBuilt × (text ≡ fixed_text NotBuilt)
-Judged order input TooLarge text = IsAnswered order input (answer.TooLarge text)
-Judged order input Done text = IsAnswered order input (answer.Done text)
-Judged order input Memory text = text ≡ fixed_text Memory
-Judged order input _ text = ⊥
+-- the store that is left
+abbrev pub kept_in : {O : Type 0} → Option (Stored Content O) → Option Kept
+kept_in None = None
+kept_in (Some s) = Some (kept_of s)
+
+-- each of its workflows is valid, and no two have one name
+pub record IsSound (D : Document) : Type 0 where
+  pub valid : HasValidWorkflows (law_of D)
+  pub names : NamesDiffer (law_of D).workflows
+
+-- what an order asks for of its whole input: to write a text, or to run the document that it is
+abbrev pub AsksOf : Order → List ℕ → Result Asked Status → Type 0
+AsksOf order input (Ok (asked.Told made)) = Answers order input made.status made.text
+AsksOf order input (Ok (asked.Run D s)) =
+    IsDocument input D × (order.mode ≡ mode.Run) × (s ≡ shown order.summary order.history) × IsSound D
+AsksOf order input (Err status) = Answers order input status (fixed_text status)
+
+-- what words ask for of a source: to write a text, or to run a document
+abbrev pub Asks : List (List ℕ) → Edge → Result Asked Status → Type 0
+Asks words source (Ok (asked.Told made)) = EndsBefore words source made.status made.text
+Asks words source (Ok (asked.Run D s)) = IsToRun words source D s × IsSound D
+Asks words source (Err status) = EndsBefore words source status (fixed_text status)
+
+-- the same of a document that is read, and of a JSON value
+abbrev pub OfDocument : Order → Document → Result Asked Status → Type 0
+OfDocument order D (Ok (asked.Told made)) =
+    (order.mode ≡ mode.Check) × (made.status ≡ Done) × (made.text ≡ valid_text D)
+OfDocument order D (Ok (asked.Run E s)) =
+    (E ≡ D) × (order.mode ≡ mode.Run) × (s ≡ shown order.summary order.history)
+OfDocument order D (Err NotBuilt) = order.mode ≡ mode.Simulate
+OfDocument order D (Err Memory) = Unit {0}
+OfDocument order D (Err status) = ⊥
+
+pub record OfRead (order : Order) (value : Data) (result : Result Asked Status) : Type 0 where
+  pub document : Document
+  pub sound : IsSound document
+  pub reads : document_of value ≡ Found document
+  pub is : OfDocument order document result
+
+abbrev pub IsRefusal : Data → Result Asked Status → Type 0
+IsRefusal value (Ok (asked.Told made)) = (refused : Refused) × (document_of value ≡ Broken refused)
+    × (made.status ≡ status.Refused) × (made.text ≡ refused_text refused.item refused.rule refused.field)
+IsRefusal value (Ok (asked.Run D s)) = ⊥
+IsRefusal value (Err Memory) = Unit {0}
+IsRefusal value (Err status) = ⊥
+
+abbrev pub OfValue : Order → Data → Result Asked Status → Type 0
+OfValue order value result = OfRead order value result ⊎ IsRefusal value result
+
+-- the same of an order to make a document by a number
+abbrev pub AsksOfNumber : Order → Result Asked Status → Type 0
+AsksOfNumber order (Ok (asked.Told made)) =
+    (order.bundle ≡ true) × (made.status ≡ Done) × (made.text ≡ bundle_text order.seed order.size ++ 10 ∷ [])
+AsksOfNumber order (Ok (asked.Run D s)) =
+    (order.bundle ≡ false) × (document_of (bundle order.seed order.size) ≡ Found D) × (s ≡ shown true false) × IsSound D
+AsksOfNumber order (Err Memory) = Unit {0}
+AsksOfNumber order (Err status) = ⊥
+
+-- ---- a run over a new store
+
+-- what a sweep has left of it
+abbrev pub SweptSo : {O : Type 0} → Document → Stored Content O → Result Unit RunEnd → Type 0
+SweptSo D store (Ok _) = Ran (law_of D) store.history []
+SweptSo D store (Err (end.TooLarge full)) = Ran (law_of D) store.history full × (full ≢ [])
+SweptSo D store (Err end.StoreFault) = IsLawful (law_of D) store.history × (store.row ≡ most_faults)
+SweptSo D store (Err end.Memory) = IsLawful (law_of D) store.history
+
+-- without memory for a store there is none
+abbrev pub RunLeaves : Document → Shown → Option Kept → Status → List ℕ → Type 0
+RunLeaves D s None status text = (status ≡ Memory) × (text ≡ fixed_text Memory)
+RunLeaves D s (Some k) status text = RunEnds D s k status text
 
 -- what was written of an end of this status and text, by the status that is answered
 abbrev pub Wrote : Edge → Status → List ℕ → Status → Type 0

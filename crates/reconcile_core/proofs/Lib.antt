@@ -1,0 +1,6 @@
+pub mod Planning
+pub mod Performing
+pub mod Stepping
+pub mod Alone
+pub mod Working
+pub mod WholeJobs

@@ -1,0 +1,5 @@
+pub mod Doing
+pub mod Dues
+pub mod Listing
+pub mod Rosters
+pub mod Submitting

@@ -1,0 +1,6 @@
+-- Each call so far failed, and left the history as it was.
+use Rattle.std.proofs.Common.{◌≡◌}
+use Rattle.sim_schedule.proofs.submit.submit.Given as goal
+
+abbrev pub invariant-tries : goal.invariant-tries
+invariant-tries g l = l.store.history ≡ l.fn.store.history

@@ -1,0 +1,24 @@
+-- Round by round, from the submissions on.
+use Rattle.std.proofs.Common.{List, Option, subst}
+use Rattle.law.specs.Documents.{Text}
+use Rattle.wf_object.specs.Documents.{law_of}
+use Rattle.sim_schedule.specs.Sweeping.{TurnGives}
+use Rattle.sim_schedule.proofs.Submitting.{on, kept_on, kept_end, swept_by}
+use Rattle.sim_schedule.proofs.whole_run.sweep.Goals as goal
+
+pub rounds-preserved : goal.rounds-preserved
+rounds-preserved g c = record {
+  follows = c.in_ok-full.ensures.follows;
+  on = on (law_of c.args.document.now) c.args.store.now.history c.rounds.store.history c.turn.new.store.history c.rounds.invariant.on c.turn.ensures.on;
+  kept = λ lawful. kept_on (law_of c.args.document.now) c.args.store.now.history c.rounds.store.history c.turn.new.store.history c.turn.ensures.on
+      (c.in_ok-full.ensures.pace (c.rounds.invariant.on.lawful lawful)) (c.rounds.invariant.kept lawful);
+}
+
+pub returns-in-Some-clause-swept : goal.returns-in-Some-clause-swept
+returns-in-Some-clause-swept g c = λ lawful.
+    let now = c.rounds.invariant.on.lawful lawful in
+    let kept = kept_on (law_of c.args.document.now) c.args.store.now.history c.rounds.store.history c.turn.new.store.history c.turn.ensures.on
+    (c.in_ok-full.ensures.pace now) (c.rounds.invariant.kept lawful) in
+    let over = subst (λ (o : Option (List Text)). TurnGives (law_of c.args.document.now) o c.turn.new.store.history) c.in-Some.is (c.in_ok-full.ensures.over now) in
+    swept_by (law_of c.args.document.now) c.args.store.now.history c.turn.new.store.history c.in-Some.full c.end_with.result c.end_with.ensures
+    (kept_end (law_of c.args.document.now) c.args.store.now.history c.turn.new.store.history c.in-Some.full kept over)

@@ -1,0 +1,30 @@
+-- A round keeps the pace, and so does the tick behind it.
+use Rattle.std.proofs.Common.{◌≡◌, ◌∙◌, sym, rules}
+use Rattle.next_step.specs.Rounds.{jobs_of, entries_in}
+use Rattle.wf_object.specs.Documents.{law_of}
+use Rattle.sim_schedule.proofs.Rosters.{of_same}
+use Rattle.sim_schedule.proofs.Submitting.{still_done, still_same}
+use Rattle.sim_schedule.proofs.whole_run.turn.Goals as goal
+
+pub returns-then-done-clause-pace : goal.returns-then-done-clause-pace
+returns-then-done-clause-pace g c = λ lawful n.
+    c.jobs_keep_pace.ensures.jobs (law_of c.args.document.now) c.args.store.now.history c.do_round.new.store.history
+    (jobs_of c.args.store.now.history) c.in_ok-done.done.full c.in_ok-done.done.failed n (c.in_ok-done.ensures.done lawful)
+
+pub returns-in-None-clause-pace : goal.returns-in-None-clause-pace
+returns-in-None-clause-pace g c = λ lawful n.
+    c.jobs_keep_pace.ensures.jobs (law_of c.args.document.now) c.args.store.now.history c.do_round.new.store.history
+    (jobs_of c.args.store.now.history) c.in_ok-done.done.full c.in_ok-done.done.failed n (c.in_ok-done.ensures.done lawful)
+
+pub returns-in_ok-move_clock-in-Some-clause-pace : goal.returns-in_ok-move_clock-in-Some-clause-pace
+returns-in_ok-move_clock-in-Some-clause-pace g c = λ lawful n paced.
+    let entries : entries_in c.do_round.new.store.history ≡ entries_in c.args.store.now.history = search rules in
+    let done = still_done c.round_is_still.ensures (law_of c.args.document.now) c.args.store.now.history c.do_round.new.store.history
+    c.in_ok-done.done.full c.in_ok-done.done.failed c.requires.valid lawful (c.in_ok-done.ensures.done lawful) c.if-done.false entries in
+    let same = still_same c.round_is_still.ensures (law_of c.args.document.now) c.args.store.now.history c.do_round.new.store.history
+    c.in_ok-done.done.full c.in_ok-done.done.failed c.requires.valid lawful (c.in_ok-done.ensures.done lawful) c.if-done.false entries in
+    let next = sym (c.in_ok-next_after.ensures (of_same c.args.store.now.history c.do_round.new.store.history c.do_round.new.roster same
+    (c.in_ok-done.ensures.jobs lawful))) ∙ c.in-Some.is in
+    c.in_ok-move_clock-in-Some.ensures.pace next (c.do_round.ensures.on.lawful lawful) done n
+    (c.jobs_keep_pace.ensures.jobs (law_of c.args.document.now) c.args.store.now.history c.do_round.new.store.history
+    (jobs_of c.args.store.now.history) c.in_ok-done.done.full c.in_ok-done.done.failed n (c.in_ok-done.ensures.done lawful) paced)

@@ -1,0 +1,5 @@
+pub mod Inside
+pub mod Jobs
+pub mod Sweeping
+pub use Rattle.next_step.specs.Ticks
+pub use Rattle.run_laws.specs.Submissions

@@ -1,8 +1,0 @@
--- What is left decides.
-use Rattle.std.proofs.Common.{◌≡◌, drop}
-use Rattle.std.specs.List.{list_all}
-use Rattle.meaning.specs.Plain.{is_plain}
-use Rattle.wf_program.proofs.forms.are_plain.Given as goal
-
-abbrev pub invariant-loop-i : goal.invariant-loop-i
-invariant-loop-i l = list_all is_plain (drop l.i l.workflows) ≡ list_all is_plain l.workflows

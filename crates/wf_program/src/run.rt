@@ -1,0 +1,81 @@
+//! The run of a document over a new store.
+
+ghost use Rattle.std.specs.Prelude.{◌≡◌, [], All, IfOk};
+ghost use Rattle.run_laws.specs.Submissions.{begun};
+ghost use Rattle.wf_object.specs.Documents.{law_of};
+ghost use Rattle.wf_program.specs.Runs.{RunEnds};
+ghost use Rattle.wf_program.specs.Inside.Ends.{IsSound, SweptSo, kept_of, kept_in, RunLeaves, status_in, text_in};
+
+use crate::ended::Ended;
+use crate::status::Status;
+use crate::texts::Made;
+use base_types::{Memory, TryCopy};
+use io_edge::Outage;
+use object_store::Store;
+use run_laws::laws::submissions_go_well;
+use run_texts::{Shown, run_text, too_large_text};
+use sim_schedule::{RunEnd, sweep};
+use std::alloc::Global;
+use wf_bundle::Document;
+use wf_object::{WfContent, starts};
+
+// The text of a run that ended so.
+fn end_of_run<O: Outage>(
+    alloc: Global,
+    document: &Document,
+    store: &Store<WfContent, O>,
+    shown: Shown,
+    swept: Result<(), RunEnd>,
+) -> Result<Made, Status>
+    requires { SweptSo document.now store.now swept }
+    ensures { RunEnds document.now shown (kept_of store.now) (status_in result) (text_in result) }
+{
+    match swept {
+        Ok(()) => Ok(Made {
+            status: Status::Done,
+            text: run_text(alloc, store, shown)?,
+        }),
+        Err(RunEnd::TooLarge { workflows }) => {
+            let mut text = run_text(alloc, store, shown)?;
+            text.extend(too_large_text(alloc, workflows.as_slice())?.as_slice())?;
+            Ok(Made {
+                status: Status::TooLarge,
+                text,
+            })
+        }
+        Err(RunEnd::StoreFault) => Err(Status::StoreFault),
+        Err(RunEnd::Memory) => Err(Status::Memory),
+    }
+}
+
+// A store of the document, with no entries.
+fn new_store<O: Outage>(
+    alloc: Global,
+    outage: O,
+    document: &Document,
+) -> Result<Store<WfContent, O>, Memory>
+    ensures { IfOk result (λ store. store.history ≡ begun (law_of document.now) []) }
+{
+    let start = starts(alloc, document.limits.copy()?)?;
+    Ok(Store::new(outage, start))
+}
+
+/// Runs a document over a new store, which is left in `ended`.
+pub(crate) fn run<O: Outage>(
+    alloc: Global,
+    document: &Document,
+    shown: Shown,
+    outage: O,
+    ended: &mut Ended<O>,
+) -> Result<Made, Status>
+    requires { IsSound document.now }
+    ensures { RunLeaves document.now shown (kept_in ended.new.store) (status_in result) (text_in result) }
+{
+    submissions_go_well();
+    ended.store = None;
+    let mut store = new_store(alloc, outage, document)?;
+    let swept = sweep(alloc, &mut store, document);
+    let made = end_of_run(alloc, document, &store, shown, swept);
+    ended.store = Some(store);
+    made
+}
