@@ -1,2 +1,3 @@
 pub mod Keys
-pub mod Walks
+pub mod Tabled
+pub mod Found

@@ -1,3 +1,4 @@
+pub mod Inside
 pub mod Saving
 pub use Rattle.saves.specs.Saves
 pub use Rattle.saves.specs.declared.Saved

@@ -12,12 +12,12 @@ use base_types::{List, Memory};
 use call_nodes::{add_tags_of, bare, covered};
 use meaning::Place;
 use scopes::Tags;
-use tree_state::State;
+use tree_state::{Shared, State};
 use tree_types::{Kind, Note, Phase, Wants, worst};
 use wf_manifest::Group;
 
 /// The node of a group over its members, given what each of its calls made.
-pub fn group_state(place: Place, calls: &Group, states: List<State>) -> Result<State, Memory>
+pub fn group_state(place: Place, calls: &Group, states: List<Shared>) -> Result<State, Memory>
     ensures { (ms : Seq steps.Member) → map (λ m. m.0) ms ≡ calls.now → steps.makings ms ≡ states →
         IfOk result (λ s. s ≡ steps.group_made place ms) }
 {
@@ -28,7 +28,7 @@ pub fn group_state(place: Place, calls: &Group, states: List<State>) -> Result<S
 }
 
 /// The tags of the members of a group, given what each of its calls made.
-pub fn group_tags(calls: &Group, states: &List<State>) -> Result<Tags, Memory>
+pub fn group_tags(calls: &Group, states: &List<Shared>) -> Result<Tags, Memory>
     ensures { (ms : Seq steps.Member) → map (λ m. m.0) ms ≡ calls.now → steps.makings ms ≡ states.now →
         IfOk result (λ tags. HasValuesOf tags (steps.group_tags ms)) }
 {
@@ -40,13 +40,13 @@ pub fn group_tags(calls: &Group, states: &List<State>) -> Result<Tags, Memory>
             &mut tags,
             "steps.",
             &calls.get(left).name,
-            states.get(left).node(),
+            states.get(left).state().node(),
         )?;
     }
     Ok(tags)
 }
 
-fn group_phase(calls: &Group, states: &List<State>) -> Phase
+fn group_phase(calls: &Group, states: &List<Shared>) -> Phase
     ensures { result ≡ phase_over calls.now states.now }
 {
     if are_finished(states) {
@@ -57,14 +57,15 @@ fn group_phase(calls: &Group, states: &List<State>) -> Phase
 }
 
 // The worst phase of the members, as their group sees them.
-fn worst_phase(calls: &Group, states: &List<State>) -> Phase
+fn worst_phase(calls: &Group, states: &List<Shared>) -> Phase
     ensures { result ≡ phases.worst_of (map steps.member_phase (zip calls.now states.now)) }
 {
     let mut phase = Phase::Succeeded;
     let mut left = calls.len().min(states.len());
     while left > 0 {
         left -= 1;
-        let seen = covered(&calls.get(left).continue_on, states.get(left).phase());
+        let made = states.get(left).state();
+        let seen = covered(&calls.get(left).continue_on, made.phase());
         phase = worst(seen, phase);
     }
     phase

@@ -11,7 +11,7 @@ use crate::rows::are_finished;
 use base_types::{List, Memory};
 use call_nodes::{bare, loop_outputs, node};
 use meaning::Place;
-use tree_state::State;
+use tree_state::{Shared, State};
 use tree_types::{Kind, Node, Note, Outputs, Phase, worst};
 use wf_manifest::OutputDecls;
 
@@ -19,7 +19,7 @@ use wf_manifest::OutputDecls;
 pub fn loop_state(
     place: Place,
     declared: &OutputDecls,
-    states: List<State>,
+    states: List<Shared>,
 ) -> Result<State, Memory>
     ensures { IfOk result (λ s. s ≡ calls.loop_made place declared.now states) }
 {
@@ -29,7 +29,7 @@ pub fn loop_state(
     Ok(State::of_loop(node, some, all, row(states)?))
 }
 
-fn loop_node(place: Place, declared: &OutputDecls, states: &List<State>) -> Result<Node, Memory>
+fn loop_node(place: Place, declared: &OutputDecls, states: &List<Shared>) -> Result<Node, Memory>
     ensures { IfOk result (λ n.
         n ≡ calls.loop_node place declared.now states.now (lines.all_finished states.now)) }
 {
@@ -47,45 +47,45 @@ fn loop_node(place: Place, declared: &OutputDecls, states: &List<State>) -> Resu
     ))
 }
 
-fn outputs_of(states: &List<State>) -> Result<Vec<&Outputs>, Memory>
+fn outputs_of(states: &List<Shared>) -> Result<Vec<&Outputs>, Memory>
     ensures { IfOk result (λ items.
         map (λ o. o.now) items.items ≡ map (λ m. m.own.node.outputs) states.now) }
 {
     let mut items = Vec::with_capacity(states.allocator(), states.len())?;
     for i in 0..states.len() {
-        items.push(&states.get(i).node().outputs)?;
+        items.push(&states.get(i).state().node().outputs)?;
     }
     Ok(items)
 }
 
-fn worst_phase(states: &List<State>) -> Phase
+fn worst_phase(states: &List<Shared>) -> Phase
     ensures { result ≡ phases.worst_of (map (λ m. m.own.node.phase) states.now) }
 {
     let mut phase = Phase::Succeeded;
     let mut left = states.len();
     while left > 0 {
         left -= 1;
-        phase = worst(states.get(left).phase(), phase);
+        phase = worst(states.get(left).state().phase(), phase);
     }
     phase
 }
 
-fn any_succeeded(states: &List<State>) -> bool
+fn any_succeeded(states: &List<Shared>) -> bool
     ensures { result ≡ list_any (λ m. phases.is_succeeded m.own.node.phase) states.now }
 {
     for i in 0..states.len() {
-        if is_succeeded(states.get(i).phase()) {
+        if is_succeeded(states.get(i).state().phase()) {
             return true;
         }
     }
     false
 }
 
-fn all_failed(states: &List<State>) -> bool
+fn all_failed(states: &List<Shared>) -> bool
     ensures { result ≡ list_all (λ m. phases.is_failed m.own.node.phase) states.now }
 {
     for i in 0..states.len() {
-        if !is_failed(states.get(i).phase()) {
+        if !is_failed(states.get(i).state().phase()) {
             return false;
         }
     }

@@ -7,7 +7,8 @@ use Rattle.std.proofs.lemmas.List.Elements.{filter-append}
 use Rattle.std.proofs.lemmas.Option.{slice_get_within}
 use Rattle.tree_types.specs.declared.fact.Fact.{Fact}
 use Rattle.shared_facts.specs.Inside.Kinds.{sels_of}
-use Rattle.shared_facts.specs.Inside.Keys.{buckets, key_of}
+use Rattle.buckets.specs.Buckets.{buckets}
+use Rattle.shared_facts.specs.Inside.Keys.{key_of}
 use Rattle.shared_facts.specs.Inside.Tables.{belongs, bucket_of, IsTabled}
 
 -- ---- a table in which one bucket was replaced

@@ -3,13 +3,14 @@
 ghost use Rattle.std.specs.Prelude.{◌≡◌, [], ◌∷◌, ◌++◌, ◌<◌, length, IfOk, OnOk, OnErr, slice_get, option_copied};
 ghost use Rattle.std.specs.List.{find};
 ghost use Rattle.tree_types.specs.Journals.{knows};
+ghost use Rattle.buckets.specs.Buckets.{buckets};
 ghost use Rattle.shared_facts.specs.Inside.Kinds.{is_of};
-ghost use Rattle.shared_facts.specs.Inside.Keys.{buckets};
 ghost use Rattle.shared_facts.specs.Inside.Tables.{bucket_of};
 
-use crate::key::{BUCKETS, key_of};
+use crate::key::key_of;
 use crate::kind::{Kind, is_of, kind_of, sels_of};
 use base_types::{Memory, TryCopy};
+use buckets::BUCKETS;
 use sharing::{Shared, SharedList};
 use std::alloc::Global;
 use std::marker::Model;

@@ -9,7 +9,7 @@ use Rattle.run_laws.specs.Rounds.{JobsDone, RoundsAreDone}
 use Rattle.sim_schedule.specs.declared.jobs.Job.{Job}
 use Rattle.sim_schedule.specs.declared.roster.Roster.{Roster}
 use Rattle.sim_schedule.specs.declared.round.Round.{Round}
-use Rattle.sim_schedule.specs.Jobs.{given}
+use Rattle.sim_schedule.specs.Inside.Jobs.{given}
 use Rattle.sim_schedule.specs.Inside.Rosters.{IsOf}
 use Rattle.sim_schedule.proofs.Listing.{map_next}
 

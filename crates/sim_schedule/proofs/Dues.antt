@@ -18,7 +18,7 @@ use Rattle.next_step.specs.Ticks.{planned_end, unfinished_end, pod_end, lesser, 
 use Rattle.next_step.specs.Rounds.{submitted_by, created_by, if_unfinished}
 use Rattle.sim_schedule.specs.declared.jobs.Job.{Job}
 use Rattle.sim_schedule.specs.declared.roster.Roster.{Roster}
-use Rattle.sim_schedule.specs.Jobs.{given}
+use Rattle.sim_schedule.specs.Inside.Jobs.{given}
 use Rattle.sim_schedule.specs.Inside.Rosters.{IsOf, ticks_of}
 use Rattle.sim_schedule.proofs.Listing.{flat_next, map_next, filter_of_map}
 

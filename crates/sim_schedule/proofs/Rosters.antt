@@ -15,7 +15,7 @@ use Rattle.next_step.specs.Rounds.{submitted_by, created_by}
 use Rattle.run_laws.specs.Pods.{UnfinishedPods, still_open, created_jobs, followed}
 use Rattle.sim_schedule.specs.declared.jobs.Job.{Job}
 use Rattle.sim_schedule.specs.declared.roster.Roster.{Roster}
-use Rattle.sim_schedule.specs.Jobs.{given, flows_in, pods_in}
+use Rattle.sim_schedule.specs.Inside.Jobs.{given, flows_in, pods_in}
 use Rattle.sim_schedule.specs.Inside.Rosters.{IsOf, Follows}
 use Rattle.sim_schedule.proofs.Listing.{filter_of_map}
 

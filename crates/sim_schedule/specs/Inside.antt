@@ -1,3 +1,5 @@
 -- What speaks only of private code.
 pub mod Submitting
 pub mod Rosters
+pub mod Jobs
+pub mod Turns

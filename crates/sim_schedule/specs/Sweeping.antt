@@ -1,5 +1,5 @@
 -- What a run leaves.
-use Rattle.std.specs.Prelude.{◌≡◌, ◌≢◌, ℕ, List, [], ◌∷◌, Bool, Option, Some, None, Result, Ok, Err, is_some, if◌then◌else◌}
+use Rattle.std.specs.Prelude.{◌≡◌, ◌≢◌, ℕ, List, [], ◌∷◌, Bool, Result, Ok, Err, is_some, if◌then◌else◌}
 use Rattle.tree_types.specs.declared.entry.Key.TheVariants as of_key
 use Rattle.wf_manifest.specs.declared.manifest.Manifest.{Manifest}
 use Rattle.history.specs.History.{Extends, grown, version_at}
@@ -55,21 +55,3 @@ SweepGives D h (Ok _) g = Swept D h g []
 SweepGives D h (Err (TooLarge full)) g = Swept D h g full × (full ≢ [])
 SweepGives D h (Err StoreFault) g = Unit {0}
 SweepGives D h (Err Memory) g = Unit {0}
-
--- one round, and what follows it: the run goes on, or it is over but for these workflows
-abbrev pub TurnGives : Document → Option (List Text) → Story → Type 0
-TurnGives D None g = Unit {0}
-TurnGives D (Some full) g = IsOver D g full
-
--- the end of a run at which these workflows are full
-abbrev pub EndGives : List Text → Result Unit RunEnd → Type 0
-EndGives full (Ok _) = full ≡ []
-EndGives full (Err (TooLarge names)) = (names ≡ full) × (full ≢ [])
-EndGives full (Err _) = ⊥
-
--- a part of a run does not end it for full workflows
-abbrev pub NamesNone : {A : Type 0} → Result A RunEnd → Type 0
-NamesNone (Ok x) = Unit {0}
-NamesNone (Err (TooLarge full)) = ⊥
-NamesNone (Err StoreFault) = Unit {0}
-NamesNone (Err Memory) = Unit {0}

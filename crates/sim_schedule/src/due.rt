@@ -8,7 +8,7 @@ ghost use Rattle.law.specs.Due.{command_tick};
 ghost use Rattle.next_step.specs.Ticks.{pod_end, timers, least_above, next_tick};
 ghost use Rattle.tree_state.specs.Finding.{sooner};
 ghost use Rattle.wf_object.specs.Documents.{law_of, command_of};
-ghost use Rattle.sim_schedule.specs.Jobs.{given};
+ghost use Rattle.sim_schedule.specs.Inside.Jobs.{given};
 ghost use Rattle.sim_schedule.specs.Inside.Rosters.{IsOf, ticks_of};
 
 use crate::finding::{pod_at, workflow_at};

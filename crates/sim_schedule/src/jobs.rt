@@ -5,7 +5,7 @@ ghost use Rattle.law.specs.Contents.{pod_of};
 ghost use Rattle.next_step.specs.Hands.{for_pod};
 ghost use Rattle.next_step.specs.Rounds.{submitted_by, created_by, if_unfinished};
 ghost use Rattle.run_laws.specs.Pods.{still_open};
-ghost use Rattle.sim_schedule.specs.Jobs.{given, flows_in, pods_in, is_open};
+ghost use Rattle.sim_schedule.specs.Inside.Jobs.{given, flows_in, pods_in, is_open};
 
 use crate::finding::pod_at;
 use base_types::{List, Memory, Text, TryCopy};

@@ -11,8 +11,9 @@ ghost use Rattle.run_laws.specs.Rounds.{JobsDone, full_by, is_failed};
 ghost use Rattle.wf_object.specs.Documents.{law_of};
 ghost use Rattle.object_store.specs.Stored.{most_faults};
 ghost use Rattle.sim_schedule.specs.declared.end.RunEnd.TheVariants.{StoreFault};
-ghost use Rattle.sim_schedule.specs.Jobs.{given, told};
-ghost use Rattle.sim_schedule.specs.Sweeping.{NamesNone, GoesOn};
+ghost use Rattle.sim_schedule.specs.Inside.Jobs.{given, told};
+ghost use Rattle.sim_schedule.specs.Sweeping.{GoesOn};
+ghost use Rattle.sim_schedule.specs.Inside.Turns.{NamesNone};
 ghost use Rattle.sim_schedule.specs.Inside.Rosters.{IsOf, Follows};
 
 use crate::RunEnd;

@@ -7,7 +7,8 @@ ghost use Rattle.lawful.specs.Manifests.{HasValidWorkflows};
 ghost use Rattle.object_store.specs.Stored.{most_faults};
 ghost use Rattle.wf_object.specs.Documents.{law_of};
 ghost use Rattle.sim_schedule.specs.declared.end.RunEnd.TheVariants.{StoreFault};
-ghost use Rattle.sim_schedule.specs.Sweeping.{NamesNone, GoesOn, with_submission, with_submissions};
+ghost use Rattle.sim_schedule.specs.Sweeping.{GoesOn, with_submission, with_submissions};
+ghost use Rattle.sim_schedule.specs.Inside.Turns.{NamesNone};
 ghost use Rattle.sim_schedule.specs.Inside.Submitting.{IsDone};
 
 use crate::RunEnd;

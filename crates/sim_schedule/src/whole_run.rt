@@ -10,7 +10,8 @@ ghost use Rattle.next_step.specs.Rounds.{jobs_of};
 ghost use Rattle.run_laws.specs.Rounds.{JobsDone};
 ghost use Rattle.wf_object.specs.Documents.{law_of};
 ghost use Rattle.sim_schedule.specs.declared.end.RunEnd.TheVariants.{StoreFault};
-ghost use Rattle.sim_schedule.specs.Sweeping.{NamesNone, GoesOn, KeepsPace, SweepGives, TurnGives, EndGives};
+ghost use Rattle.sim_schedule.specs.Sweeping.{GoesOn, KeepsPace, SweepGives};
+ghost use Rattle.sim_schedule.specs.Inside.Turns.{NamesNone, TurnGives, EndGives};
 ghost use Rattle.sim_schedule.specs.Inside.Rosters.{Follows};
 
 use crate::RunEnd;

@@ -1,7 +1,7 @@
 -- One request of a list is changed, found by a test or at its place.
-use Rattle.std.proofs.Common.{◌≡◌, ℕ, zero, suc, ◌<◌, Bool, true, false, cond, ◌||◌, List, [], ◌∷◌, ◌++◌, length, Option, Some, None, option_map, refl, sym, ◌∙◌, ap, ap₂, subst, arith, true≢false, length-append}
+use Rattle.std.proofs.Common.{◌≡◌, ℕ, zero, suc, ◌<◌, Bool, true, false, cond, ◌||◌, List, [], ◌∷◌, ◌++◌, length, Option, Some, None, option_map, refl, sym, ◌∙◌, ap, ap₂, arith, true≢false, length-append}
 use Rattle.std.proofs.Math.ListN.{set}
-use Rattle.std.specs.Prelude.{slice_get, IsSome}
+use Rattle.std.specs.Prelude.{slice_get}
 use Rattle.std.specs.List.{list_any}
 use Rattle.tree_types.specs.declared.entry.HolderKey.{HolderKey}
 use Rattle.books.specs.declared.Request.{Request}
@@ -10,7 +10,8 @@ use Rattle.books.specs.declared.LockState.TheVariants.{Holding}
 use Rattle.books.specs.Books.{key_eq, change_first, request_of}
 use Rattle.books.specs.Laws.{is_of}
 use Rattle.sync_locks.specs.Book.{state_in}
-use Rattle.sync_locks.proofs.Ranked.{At}
+use Rattle.sync_locks.specs.Inside.Rows.{place}
+use Rattle.sync_locks.proofs.Ranked.{At, at_place}
 
 pub unchanged : (test : Request → Bool) (f : Request → Request) (rs : List Request) → list_any test rs ≡ false → change_first test f rs ≡ rs
 unchanged test f [] n = refl
@@ -49,7 +50,7 @@ changed_at test f rs i a =
     ∙ changed_there test f a.front a.back a.found a.none a.passes
     ∙ sym (ap₂ (λ (x : List Request) (n : ℕ). set x n (f a.found)) a.is (sym a.long) ∙ set_there a.front a.back a.found (f a.found))
 
-pub request_there : (key : HolderKey) (front back : List Request) (r : Request) → list_any (is_of key) front ≡ false → is_of key r ≡ true → request_of (front ++ r ∷ back) key ≡ Some r
+request_there : (key : HolderKey) (front back : List Request) (r : Request) → list_any (is_of key) front ≡ false → is_of key r ≡ true → request_of (front ++ r ∷ back) key ≡ Some r
 request_there key [] back r f t = ap (λ c. cond c (Some r) (request_of back key)) t
 request_there key (q ∷ front) back r f t = by (key_eq key q.key) f (λ k. request_there key front back r k t)
   where
@@ -62,12 +63,12 @@ stands_set [] i q h = absurd (omega arith)
 stands_set (r ∷ rs) zero q h = refl
 stands_set (r ∷ rs) (suc i) q h = stands_set rs i q (omega arith)
 
--- how the request of a key stands, where it is the first of that key
-pub state_here : (key : HolderKey) (front back : List Request) (r : Request) → list_any (is_of key) front ≡ false → is_of key r ≡ true → state_in key (front ++ r ∷ back) ≡ Some r.state
-state_here key front back r n t = ap (option_map (λ (q : Request). q.state)) (request_there key front back r n t)
-
 pub request_at : (key : HolderKey) (rs : List Request) (i : ℕ) (a : At (is_of key) rs i) → request_of rs key ≡ Some a.found
 request_at key rs i a = ap (λ (x : List Request). request_of x key) a.is ∙ request_there key a.front a.back a.found a.none a.passes
+
+-- the request of a key stands at the first place whose request is of the key
+pub request_placed : (key : HolderKey) (rs : List Request) (i : ℕ) → place (is_of key) rs ≡ Some i → slice_get rs i ≡ request_of rs key
+request_placed key rs i e = let a = at_place (is_of key) rs i e in stands_at (is_of key) rs i a ∙ sym (request_at key rs i a)
 
 pub request_nowhere : (key : HolderKey) (rs : List Request) → list_any (is_of key) rs ≡ false → request_of rs key ≡ None
 request_nowhere key [] h = refl
@@ -77,25 +78,8 @@ request_nowhere key (r ∷ rs) h = by (key_eq key r.key) h (λ k. request_nowher
     by true h ih = absurd (true≢false h)
     by false h ih = ih h
 
-pub request_somewhere : (key : HolderKey) (rs : List Request) → list_any (is_of key) rs ≡ true → (r : Request) × (request_of rs key ≡ Some r)
-request_somewhere key [] h = absurd (true≢false (sym h))
-request_somewhere key (r ∷ rs) h = by (key_eq key r.key) h (λ k. request_somewhere key rs k)
-  where
-    by : (b : Bool) → (b || list_any (is_of key) rs) ≡ true → (list_any (is_of key) rs ≡ true → (q : Request) × (request_of rs key ≡ Some q)) → (q : Request) × (cond b (Some r) (request_of rs key) ≡ Some q)
-    by true h ih = (r, refl)
-    by false h ih = ih h
-
 pub no_state : {A : Type 0} (key : HolderKey) (rs : List Request) (s : LockState) → list_any (is_of key) rs ≡ false → state_in key rs ≡ Some s → A
 no_state key rs s n e = absurd (cc (e, ap (option_map (λ (q : Request). q.state)) (request_nowhere key rs n)))
-
-pub state_some : (key : HolderKey) (rs : List Request) → list_any (is_of key) rs ≡ true → IsSome (state_in key rs)
-state_some key rs h = by (request_somewhere key rs h)
-  where
-    by : (r : Request) × (request_of rs key ≡ Some r) → IsSome (state_in key rs)
-    by x = subst (λ (o : Option Request). IsSome (option_map (λ (q : Request). q.state) o)) (sym x.1) refl
-
-pub state_none : (key : HolderKey) (rs : List Request) → list_any (is_of key) rs ≡ false → IsSome (state_in key rs) → ⊥
-state_none key rs n h = true≢false (sym (subst (λ (o : Option Request). IsSome (option_map (λ (q : Request). q.state) o)) (request_nowhere key rs n) h))
 
 -- the request by which a key holds its lock
 pub holder_there : (key : HolderKey) (rs : List Request) → state_in key rs ≡ Some Holding → (r : Request) × (request_of rs key ≡ Some r) × (r.state ≡ Holding)

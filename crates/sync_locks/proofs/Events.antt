@@ -1,7 +1,6 @@
 -- A filing and a release, as the code does them, are those of the definitions.
-use Rattle.std.proofs.Common.{◌≡◌, ℕ, Bool, true, false, nat_lt, List, [], ◌∷◌, ◌++◌, Some, refl, sym, ◌∙◌, ap, ap₂, subst}
+use Rattle.std.proofs.Common.{◌≡◌, ℕ, Bool, true, false, nat_lt, List, [], ◌∷◌, ◌++◌, Option, Some, None, option_map, refl, sym, ◌∙◌, ap, ap₂, subst}
 use Rattle.std.specs.Prelude.{slice_get, slice_set}
-use Rattle.std.specs.List.{list_any}
 use Rattle.tree_types.specs.declared.path.LockId.{LockId}
 use Rattle.tree_types.specs.declared.entry.HolderKey.{HolderKey}
 use Rattle.tree_types.specs.declared.entry.Limit.{Limit}
@@ -15,7 +14,7 @@ use Rattle.sync_locks.specs.Inside.Rows as rows
 use Rattle.sync_locks.specs.Book.{state_in}
 use Rattle.sync_locks.specs.Inside.Rows.{place, state_by}
 use Rattle.sync_locks.proofs.Ranked.{At, at_place}
-use Rattle.sync_locks.proofs.Changes.{stands_at, stands_set, place_within, changed_at, request_at, request_nowhere, holder_there}
+use Rattle.sync_locks.proofs.Changes.{stands_at, stands_set, place_within, changed_at, request_at, holder_there}
 
 -- ---- a filing
 
@@ -31,8 +30,12 @@ module _ (once : FilesOnce) (limits : List Limit) (rs : List Request) (lock : Lo
       by true = refl
       by false = refl
 
-  pub filed_kept : FilesWellKept → list_any (is_of key) rs ≡ false → (ss : List Request) → ss ≡ filed limits lock key rank rs → IsWellKept limits ss
-  filed_kept files n ss e = subst (IsWellKept limits) (sym e) (files limits rs lock key rank kept (request_nowhere key rs n))
+  nothing_asked : (o : Option Request) → option_map (λ (r : Request). r.state) o ≡ None → o ≡ None
+  nothing_asked None e = refl
+  nothing_asked (Some r) e = absurd (cc e)
+
+  pub filed_kept : FilesWellKept → state_in key rs ≡ None → (ss : List Request) → ss ≡ filed limits lock key rank rs → IsWellKept limits ss
+  filed_kept files n ss e = subst (IsWellKept limits) (sym e) (files limits rs lock key rank kept (nothing_asked (request_of rs key) n))
 
 -- ---- a release
 

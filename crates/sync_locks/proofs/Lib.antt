@@ -1,4 +1,6 @@
 pub mod Keys
+pub mod Stands
+pub mod Tabled
 pub mod Scans
 pub mod Ranked
 pub mod Changes

@@ -1,48 +1,31 @@
--- What stands at places of rows, and the first waiter as one row more is looked at.
-use Rattle.std.proofs.Common.{◌≡◌, ℕ, zero, suc, ◌<◌, ◌≤◌, Bool, true, false, cond, List, [], ◌∷◌, ◌++◌, length, take, get_or, Option, Some, None, option_map, refl, sym, ◌∙◌, ap, ap₂, arith, append_assoc}
+-- Places within requests, and the first waiter as one request more is looked at.
+use Rattle.std.proofs.Common.{◌≡◌, ℕ, ◌<◌, ◌≤◌, Bool, true, false, cond, List, [], ◌∷◌, ◌++◌, length, take, Option, Some, None, refl, sym, ◌∙◌, ap, ap₂, arith, append_assoc}
 use Rattle.std.specs.Prelude.{slice_get, option_and_then}
-use Rattle.std.proofs.lemmas.List.{length-map}
+use Rattle.std.proofs.lemmas.List.{length-take-le}
 use Rattle.std.specs.List.{list_any}
 use Rattle.std.specs.Cmp.{IsTotalOrder}
-use Rattle.std.proofs.lemmas.Option.{slice_get-map, slice_get_read}
 use Rattle.books.specs.declared.Request.{Request}
 use Rattle.books.specs.Books.{Text, rank_cmp, before}
 use Rattle.books.specs.Laws.{waits_for, is_first_for}
-use Rattle.sync_locks.specs.declared.row.Row.{Row}
-use Rattle.sync_locks.specs.Inside.Rows.{request_in, requests_in, place, first_place, next_place, sooner, ranks_sooner}
-use Rattle.sync_locks.proofs.Scans.{length_seen}
+use Rattle.sync_locks.specs.Inside.Rows.{place, first_place, next_place, sooner, ranks_sooner}
 use Rattle.sync_locks.proofs.Ranked.{At, at_place, first_only, first_passed, first_stays}
 use Rattle.sync_locks.proofs.Changes.{place_within}
 
-pub stands : (rows : List Row) (i : ℕ) (row : Row) → i < length rows → row ≡ get_or rows i row → slice_get (requests_in rows) i ≡ Some (request_in row)
-stands rows i row h e = slice_get-map request_in rows i ∙ ap (option_map request_in) (slice_get_read rows (length rows) i row refl h e)
+pub within : (rs : List Request) (test : Request → Bool) (x : ℕ) → place test rs ≡ Some x → x < length rs
+within rs test x e = place_within test rs x (at_place test rs x e)
 
-some_within : (rs : List Request) (i : ℕ) (r : Request) → slice_get rs i ≡ Some r → i < length rs
-some_within [] i r e = absurd (cc e)
-some_within (q ∷ rs) zero r e = omega arith
-some_within (q ∷ rs) (suc i) r e = let h = some_within rs i r e in omega arith
-
-pub row_within : (rows : List Row) (i : ℕ) (r : Request) → slice_get (requests_in rows) i ≡ Some r → i < length rows
-row_within rows i r e = let h = some_within (requests_in rows) i r e in let l = length-map rows request_in in omega arith
-
-pub within : (rows : List Row) (test : Request → Bool) (x : ℕ) → place test (requests_in rows) ≡ Some x → x < length rows
-within rows test x e =
-    let a = place_within test (requests_in rows) x (at_place test (requests_in rows) x e) in
-    let b = length-map rows request_in in
+pub seen_within : (test : Request → Bool) (rs : List Request) (i x : ℕ) → i ≤ length rs → place test (take i rs) ≡ Some x → x < length rs
+seen_within test rs i x h e =
+    let a = within (take i rs) test x e in
+    let b = length-take-le i rs h in
     omega arith
 
-pub seen_within : (test : Request → Bool) (rows : List Row) (i x : ℕ) → i ≤ length rows → place test (requests_in (take i rows)) ≡ Some x → x < length rows
-seen_within test rows i x h e =
-    let a = place_within test (requests_in (take i rows)) x (at_place test (requests_in (take i rows)) x e) in
-    let b = length_seen rows i h in
-    omega arith
-
-pub next_within : (rows : List Row) (i x : ℕ) → next_place i (requests_in rows) ≡ Some x → x < length rows
-next_within rows i x e = by (slice_get (requests_in rows) i) e
+pub next_within : (rs : List Request) (i x : ℕ) → next_place i rs ≡ Some x → x < length rs
+next_within rs i x e = by (slice_get rs i) e
   where
-    by : (o : Option Request) → option_and_then (λ (r : Request). first_place r.lock.text (requests_in rows)) o ≡ Some x → x < length rows
+    by : (o : Option Request) → option_and_then (λ (r : Request). first_place r.lock.text rs) o ≡ Some x → x < length rs
     by None e = absurd (cc e)
-    by (Some r) e = within rows (is_first_for r.lock.text (requests_in rows)) x e
+    by (Some r) e = within rs (is_first_for r.lock.text rs) x e
 
 get_there : (front back : List Request) (r : Request) → slice_get (front ++ r ∷ back) (length front) ≡ Some r
 get_there [] back r = refl

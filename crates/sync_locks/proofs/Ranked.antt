@@ -46,7 +46,7 @@ at_place test (r ∷ rs) i e = by (test r) refl (place test rs) refl e (λ j p. 
     by false f None p e ih = absurd (cc e)
     by false f (Some j) p e ih = behind j f (let z : suc j ≡ i = cc in z) (ih j p)
 
-pub no_place : (test : Request → Bool) (rs : List Request) → list_any test rs ≡ false → place test rs ≡ None
+no_place : (test : Request → Bool) (rs : List Request) → list_any test rs ≡ false → place test rs ≡ None
 no_place test [] n = refl
 no_place test (r ∷ rs) n = by (test r) n (λ k. no_place test rs k)
   where

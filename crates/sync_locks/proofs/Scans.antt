@@ -1,45 +1,37 @@
--- Scans over rows, as far as they have come.
-use Rattle.std.proofs.Common.{◌≡◌, ℕ, suc, ◌+◌, ◌<◌, ◌≤◌, Bool, true, false, cond, ◌||◌, List, [], ◌∷◌, ◌++◌, length, take, drop, get_or, Option, Some, None, option_map, refl, sym, ◌∙◌, ap, ap₂, arith}
+-- Scans over requests, as far as they have come.
+use Rattle.std.proofs.Common.{◌≡◌, ℕ, suc, ◌+◌, ◌<◌, ◌≤◌, Bool, true, false, cond, ◌||◌, List, [], ◌∷◌, ◌++◌, length, take, take-suc, drop, Option, Some, None, option_map, add-one, refl, sym, ◌∙◌, ap, ap₂, arith}
+use Rattle.std.specs.Prelude.{slice_get}
 use Rattle.std.specs.List.{list_any}
-use Rattle.std.proofs.lemmas.List.{map_more, take-append-drop, length-take-le, take_all, map-append, length-map}
+use Rattle.std.proofs.lemmas.List.{take-append-drop}
+use Rattle.std.proofs.lemmas.Option.{slice_get_within, get_or_from_slice_get}
 use Rattle.std.proofs.Math.Seq.{drop-cons}
 use Rattle.std.proofs.lemmas.List.Folds.{list_any-append}
 use Rattle.books.specs.declared.Request.{Request}
 use Rattle.books.specs.Books.{count}
-use Rattle.sync_locks.specs.declared.row.Row.{Row}
-use Rattle.sync_locks.specs.Inside.Rows.{request_in, requests_in, place}
+use Rattle.sync_locks.specs.Inside.Rows.{passes, is_at, place}
+use Rattle.sync_locks.proofs.Stands.{there}
 
--- ---- the rows that were looked at
+-- ---- the requests that were looked at
 
-pub requests_more : (rows : List Row) (i : ℕ) (row : Row) → i < length rows → row ≡ get_or rows i row → requests_in (take (i + 1) rows) ≡ requests_in (take i rows) ++ request_in row ∷ []
-requests_more rows i row h e = map_more request_in rows i row h ∙ ap (λ (x : Row). requests_in (take i rows) ++ request_in x ∷ []) (sym e)
+pub seen_more : (rs : List Request) (i : ℕ) (r : Request) → slice_get rs i ≡ Some r → take (i + 1) rs ≡ take i rs ++ r ∷ []
+seen_more rs i r e =
+    ap (λ n. take n rs) (add-one i)
+    ∙ take-suc rs i r (slice_get_within rs i r e)
+    ∙ ap (λ (x : Request). take i rs ++ x ∷ []) (get_or_from_slice_get rs i r r e)
 
-pub requests_all : (rows : List Row) (i : ℕ) → length rows ≤ i → requests_in (take i rows) ≡ requests_in rows
-requests_all rows i h = ap requests_in (take_all i rows h)
+pub seen_split : (rs : List Request) (i : ℕ) (r : Request) → slice_get rs i ≡ Some r → rs ≡ take i rs ++ r ∷ drop (suc i) rs
+seen_split rs i r e =
+    sym (take-append-drop i rs)
+    ∙ ap (λ (x : List Request). take i rs ++ x) (drop-cons rs i r (slice_get_within rs i r e))
+    ∙ ap (λ (x : Request). take i rs ++ x ∷ drop (suc i) rs) (get_or_from_slice_get rs i r r e)
 
-pub length_seen : (rows : List Row) (i : ℕ) → i ≤ length rows → length (requests_in (take i rows)) ≡ i
-length_seen rows i h = length-map (take i rows) request_in ∙ length-take-le i rows h
-
-pub requests_split : (rows : List Row) (i : ℕ) (row : Row) → i < length rows → row ≡ get_or rows i row → requests_in rows ≡ requests_in (take i rows) ++ request_in row ∷ requests_in (drop (suc i) rows)
-requests_split rows i row h e =
-    ap requests_in (sym (take-append-drop i rows))
-    ∙ map-append request_in (take i rows) (drop i rows)
-    ∙ ap (λ (x : List Row). requests_in (take i rows) ++ requests_in x) (drop-cons rows i row h)
-    ∙ ap (λ (x : Row). requests_in (take i rows) ++ request_in x ∷ requests_in (drop (suc i) rows)) (sym e)
+pub tested : (test : Request → Bool) (rs : List Request) (i : ℕ) (r : Request) (b : Bool) → slice_get rs i ≡ Some r → is_at test rs i ≡ b → test r ≡ b
+tested test rs i r b e t = ap (passes test) (sym e) ∙ t
 
 -- ---- places
 
 some_nothing : {A : Type 0} (i : ℕ) → Some i ≡ None → A
 some_nothing i e = absurd (cc e)
-
-pub no_place_more : (test : Request → Bool) (rs : List Request) (r : Request) → place test rs ≡ None → test r ≡ false → place test (rs ++ r ∷ []) ≡ None
-no_place_more test [] r n f = ap (λ b. cond b (Some 0) (option_map suc None)) f
-no_place_more test (q ∷ rs) r n f = by (test q) (place test rs) refl n (λ e. no_place_more test rs r e f)
-  where
-    by : (b : Bool) (o : Option ℕ) → place test rs ≡ o → cond b (Some 0) (option_map suc o) ≡ None → (place test rs ≡ None → place test (rs ++ r ∷ []) ≡ None) → cond b (Some 0) (option_map suc (place test (rs ++ r ∷ []))) ≡ None
-    by true o e n ih = some_nothing 0 n
-    by false None e n ih = ap (option_map suc) (ih e)
-    by false (Some i) e n ih = some_nothing (suc i) n
 
 pub place_here : (test : Request → Bool) (rs ss : List Request) (r : Request) → place test rs ≡ None → test r ≡ true → place test (rs ++ r ∷ ss) ≡ Some (length rs)
 place_here test [] ss r n t = ap (λ b. cond b (Some 0) (option_map suc (place test ss))) t
@@ -52,7 +44,7 @@ place_here test (q ∷ rs) ss r n t = by (test q) (place test rs) refl n (λ e. 
 
 -- ---- counts
 
-pub count_more : (test : Request → Bool) (rs : List Request) (r : Request) → count test (rs ++ r ∷ []) ≡ cond (test r) (count test rs + 1) (count test rs)
+count_more : (test : Request → Bool) (rs : List Request) (r : Request) → count test (rs ++ r ∷ []) ≡ cond (test r) (count test rs + 1) (count test rs)
 count_more test [] r = by (test r)
   where
     by : (b : Bool) → cond b (suc 0) 0 ≡ cond b (0 + 1) 0
@@ -65,6 +57,15 @@ count_more test (q ∷ rs) r = by (test q) (test r) (count_more test rs r)
     by true false h = ap suc h
     by false true h = h
     by false false h = h
+
+pub count_step : (test : Request → Bool) (rs : List Request) (i : ℕ) (b : Bool) → i < length rs → is_at test rs i ≡ b → count test (take (i + 1) rs) ≡ cond b (count test (take i rs) + 1) (count test (take i rs))
+count_step test rs i b h t = by (there rs i h)
+  where
+    by : (r : Request) × (slice_get rs i ≡ Some r) → count test (take (i + 1) rs) ≡ cond b (count test (take i rs) + 1) (count test (take i rs))
+    by x =
+        ap (count test) (seen_more rs i x.0 x.1)
+        ∙ count_more test (take i rs) x.0
+        ∙ ap (λ (c : Bool). cond c (count test (take i rs) + 1) (count test (take i rs))) (tested test rs i x.0 b x.1 t)
 
 pub count_fits : (test : Request → Bool) (rs : List Request) → count test rs ≤ length rs
 count_fits test [] = omega arith

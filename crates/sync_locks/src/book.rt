@@ -2,10 +2,7 @@
 
 use crate::limit::limit_of;
 use crate::refused::{FileRefused, NotHolding};
-use crate::row::{
-    Asked, Row, add_row, holder_of, holders_beside, holders_of, new_state, pass_on, set_state,
-    share_rows, standing_of, state_in,
-};
+use crate::requests::{Asked, Requests, new_state};
 use base_types::{Memory, Text, TryCopy};
 use books::{LockState, laws};
 use std::marker::Model;
@@ -17,7 +14,7 @@ use tree_types::{HolderKey, Limits, LockId, Path, Rank};
 #[derive(Drop)]
 pub struct LockBook {
     limits: Arc<Limits>,
-    rows: Vec<Row>,
+    requests: Requests,
 }
 
 impl Model for LockBook {
@@ -26,11 +23,10 @@ impl Model for LockBook {
     ghost Value = { Book };
 
     ghost use Rattle.books.specs.Laws.{IsWellKept};
-    ghost use Rattle.sync_locks.specs.Inside.Rows.{requests_in};
 
-    ghost view = { λ book. record { limits = book.limits.value; requests = requests_in book.rows.items } };
+    ghost view = { λ book. record { limits = book.limits.value; requests = book.requests } };
 
-    ghost invariant = { λ book. IsWellKept book.limits.value (requests_in book.rows.items) };
+    ghost invariant = { λ book. IsWellKept book.limits.value book.requests };
 }
 
 impl LockBook {
@@ -47,7 +43,7 @@ impl LockBook {
         let alloc = limits.allocator();
         Ok(LockBook {
             limits: Arc::new(alloc, limits)?,
-            rows: Vec::new(alloc),
+            requests: Requests::new(alloc)?,
         })
     }
 
@@ -59,11 +55,12 @@ impl LockBook {
     {
         laws::stays_well_kept();
         laws::files_once();
-        match holders_beside(&self.rows, &lock, &key) {
-            None => Err(FileRefused::Known),
-            Some(holders) => {
+        match self.requests.state_in(&key) {
+            Some(_) => Err(FileRefused::Known),
+            None => {
+                let holders = self.requests.holders_of(&lock);
                 let state = new_state(holders, limit_of(&self.limits, &lock));
-                add_row(&mut self.rows, Asked { lock, key, rank }, state)?;
+                self.requests.add(Asked { lock, key, rank }, state)?;
                 Ok(())
             }
         }
@@ -77,11 +74,11 @@ impl LockBook {
     {
         laws::stays_well_kept();
         laws::releases_once();
-        match holder_of(&self.rows, key) {
+        match self.requests.holder_of(key) {
             None => Err(NotHolding),
             Some(place) => {
-                set_state(&mut self.rows, place, LockState::Released);
-                pass_on(&mut self.rows, place);
+                self.requests.set_state(place, LockState::Released);
+                self.requests.pass_on(place);
                 Ok(())
             }
         }
@@ -91,7 +88,7 @@ impl LockBook {
     pub fn state(&self, key: &HolderKey) -> Option<LockState>
         ensures { result ≡ state_in key.now self.now.requests }
     {
-        state_in(&self.rows, key)
+        self.requests.state_in(key)
     }
 
     /// Which lock a path of a workflow asked for, and how its request stands.
@@ -99,7 +96,7 @@ impl LockBook {
         ensures { option_map (λ s. (s.0.now, s.1)) result
             ≡ standing_of (key_by workflow.now path.now) self.now.requests }
     {
-        standing_of(&self.rows, workflow, path)
+        self.requests.standing_of(workflow, path)
     }
 
     /// How many hold a lock.
@@ -107,14 +104,14 @@ impl LockBook {
         ensures count { result ≡ books.holders lock.now.text self.now.requests }
         ensures within { result ≤ books.limit_of self.now.limits lock.now.text }
     {
-        holders_of(&self.rows, lock)
+        self.requests.holders_of(lock)
     }
 
     /// What every book keeps. It does nothing.
     pub fn well_kept(&self)
         ensures { IsWellKept self.now.limits self.now.requests }
     {
-        let _ = &self.rows;
+        let _ = &self.requests;
     }
 }
 
@@ -123,7 +120,7 @@ impl TryCopy for LockBook {
     fn copy(&self) -> Result<LockBook, Memory> {
         Ok(LockBook {
             limits: Arc::try_clone(&self.limits)?,
-            rows: share_rows(&self.rows, *self.rows.allocator())?,
+            requests: self.requests.share()?,
         })
     }
 }

@@ -2,10 +2,11 @@
 #![tactic(auto)]
 
 mod book;
+mod bucket;
 mod limit;
 mod ranking;
 mod refused;
-mod row;
+mod requests;
 
 pub use book::LockBook;
 pub use refused::{FileRefused, NotHolding};

@@ -1,11 +1,9 @@
 -- What one recorded fact changes of a call that runs, form by form.
-use Rattle.std.proofs.Common.{◌≡◌, ℕ, zero, suc, ◌+◌, ◌<◌, List, [], ◌∷◌, ◌++◌, append_assoc, Bool, true, false, Option, Some, None, Ok, Err, codes, refl, sym, ap, ap₂, ◌∙◌, subst, arith}
-use Rattle.std.specs.Prelude.{slice_get, is_some, ◌&&◌, ◌==◌}
+use Rattle.std.proofs.Common.{◌≡◌, ℕ, zero, suc, ◌+◌, ◌<◌, List, [], ◌∷◌, ◌++◌, true, false, Option, Some, None, Ok, Err, codes, refl, sym, ap, ◌∙◌, subst, arith}
+use Rattle.std.specs.Prelude.{slice_get, is_some, ◌&&◌}
 use Rattle.std.specs.List.{list_all}
 use Rattle.std.proofs.Common.{ne_eqb}
-use Rattle.tree_types.specs.declared.path.Sel.{Sel}
 use Rattle.tree_types.specs.declared.path.Sel.TheVariants.{Group, Step, Item}
-use Rattle.tree_types.specs.declared.phase.Phase.{Phase}
 use Rattle.tree_types.specs.declared.phase.Phase.TheVariants.{Running, Skipped, Error}
 use Rattle.tree_types.specs.declared.outcome.Outcome.{Outcome}
 use Rattle.tree_types.specs.declared.node.Note.{Note}
@@ -18,33 +16,34 @@ use Rattle.wf_manifest.specs.declared.calls.Loop.{Loop}
 use Rattle.wf_manifest.specs.declared.calls.Call.{Call}
 use Rattle.wf_manifest.specs.declared.calls.Hook.{Hook}
 use Rattle.wf_manifest.specs.declared.templates.OutputDecl.{OutputDecl}
+use Rattle.wf_manifest.specs.declared.templates.Memoize.{Memoize}
 use Rattle.wf_manifest.specs.declared.templates.Retry.{Retry}
 use Rattle.wf_manifest.specs.declared.templates.Body.{Body}
 use Rattle.wf_manifest.specs.declared.templates.Body.TheVariants as body
 use Rattle.wf_manifest.specs.declared.templates.Template.{Template}
 use Rattle.wf_manifest.specs.declared.manifest.Manifest.{Manifest}
-use Rattle.scopes.specs.Substitution.{Found, Scope}
+use Rattle.scopes.specs.Substitution.{Found, Scope, said}
 use Rattle.fanout.specs.Items.{items}
 use Rattle.fanout.specs.ItemTexts.{item_tags}
 use Rattle.serde_json.specs.Data.{Data}
 use Rattle.meaning.specs.declared.lines.Place.{Place}
 use Rattle.meaning.specs.Answers.{Sels, Answers}
-use Rattle.meaning.specs.Lines.{numbered, Made, Parts, row_of, row_in, no_outputs, all_finished}
+use Rattle.meaning.specs.Lines.{numbered, Made, row_of, row_in, no_outputs, all_finished}
 use Rattle.meaning.specs.Pods.{outputs_of, pod_by, pod_made}
 use Rattle.meaning.specs.Outputs.{completed}
-use Rattle.meaning.specs.Steps.{Caller, member, members, member_place, makings, group_made, group_place, groups_from, steps_made}
-use Rattle.meaning.specs.Calls.{declared_by, item_place, item_made, looped, template_named, stopped_before_loop, stopped_at_item, unless_stopped, kind_named, hook_runs, hooked, body_by, body_made, template_made, call_of_template, one_made, each_made, call_made, calls}
+use Rattle.meaning.specs.Steps.{Caller, members, member_place, group_made, group_place, steps_made}
+use Rattle.meaning.specs.Calls.{declared_by, item_place, item_made, looped, template_named, stopped_before_loop, stopped_at_item, unless_stopped, kind_named, hook_runs, hooked, saving, body_by, body_made, template_made, call_of_template, one_made, each_made, calls}
 use Rattle.growth.proofs.Keeping.{At, node_at, ending_ends}
 use Rattle.locality.specs.Paths.{IsOff}
 use Rattle.locality.specs.Answered.{SameBut}
 use Rattle.locality.proofs.Paths.{off_other_child}
 use Rattle.locality.proofs.OffPath.{call_stays, item_stays, group_stays}
 use Rattle.tree_state.specs.Replacing.{call_at, replaced, with_call, with_item}
-use Rattle.tree_change.specs.Entered.{IsRunning, Enters, place_of}
+use Rattle.tree_change.specs.Entered.{IsRunning, place_of}
 use Rattle.tree_change.specs.Open.{unlocked, IsOpen}
 use Rattle.tree_change.proofs.Entering.{goes_on_before, goes_on_at, made_inside, has_entered, no_hook, runs_alone}
-use Rattle.tree_change.proofs.Opening.{is_open, open_phase, open_made, plain_made, open_alike}
-use Rattle.tree_change.proofs.Rows.{row_other, numbered_at, none_past, making, makings_are, group_other, groups_other, steps_other, loop_other}
+use Rattle.tree_change.proofs.Opening.{is_open, open_phase, open_made, plain_made, saved_made, open_alike}
+use Rattle.tree_change.proofs.Rows.{row_other, numbered_at, making, makings_are, group_other, groups_other, steps_other, loop_other}
 
 -- a pod's node stands at its place
 pod_at : (place : Place) (ds : List OutputDecl) (o : Option (Note × Outcome)) → At place (pod_by place ds o).own.node
@@ -72,7 +71,7 @@ module _ (m : Manifest) (A B : Answers) (changed : Sels) (same : SameBut A B cha
   off_step q j k rest way apart =
       subst (λ (p : Sels). IsOff p (q.sels ++ Step k ∷ [])) (sym way) (off_other_child q.sels rest [] (Step j) (Step k) (ne_eqb j k (λ e. apart (omega (arith, e)))))
 
-  off_group : (place : Place) (i n : ℕ) (rest : Sels) → changed ≡ place.sels ++ Group i ∷ rest → n < 0 + i → IsOff changed (place.sels ++ Group n ∷ [])
+  pub off_group : (place : Place) (i n : ℕ) (rest : Sels) → changed ≡ place.sels ++ Group i ∷ rest → n < 0 + i → IsOff changed (place.sels ++ Group n ∷ [])
   off_group place i n rest way lt =
       subst (λ (p : Sels). IsOff p (place.sels ++ Group n ∷ [])) (sym way) (off_other_child place.sels rest [] (Group i) (Group n) (ne_eqb i n (λ e. omega (arith, e))))
 
@@ -137,6 +136,25 @@ module _ (m : Manifest) (A B : Answers) (changed : Sels) (same : SameBut A B cha
       let running : IsRunning (body_made A called place inner t) = ap (λ (b : Made). b.own.node.phase) now ∙ changed_so.1 in
       open_made A called place inner t (open_alike A B place inner t (same.granted place.sels apart) (same.memo place.sels apart) was.0) running ∙ now
 
+  -- a steps template without a cache, above the change: it is past its lock, as it was
+  pub steps_template_again : (place : Place) (inner : Scope) (t : Template) (gs : List (List Call)) (old : Made) →
+      old ≡ template_made B other place inner t → IsRunning old → t.body ≡ body.Steps gs → t.memoize ≡ None → sels_eq place.sels changed ≡ false →
+      template_made A called place inner t ≡ steps_made called place inner t.outputs gs
+  steps_template_again place inner t gs old is runs form plain apart =
+      let past = open_alike A B place inner t (same.granted place.sels apart) (same.memo place.sels apart) (was_body place inner t old is runs).0 in
+      plain_made A called place inner t plain past.unlocked
+      ∙ ap (body_by A called place inner t.outputs t.retry) form
+      ∙ steps_body A called place inner t.outputs t.retry gs
+
+  -- and one with a cache that had nothing
+  pub steps_template_saved : (place : Place) (inner : Scope) (t : Template) (gs : List (List Call)) (c : Memoize) (key : List ℕ) (old : Made) →
+      old ≡ template_made B other place inner t → IsRunning old → t.body ≡ body.Steps gs → t.memoize ≡ Some c → said inner c.key ≡ Ok key → sels_eq place.sels changed ≡ false →
+      template_made A called place inner t ≡ saving place c key (steps_made called place inner t.outputs gs)
+  steps_template_saved place inner t gs c key old is runs form cached keyed apart =
+      let past = open_alike A B place inner t (same.granted place.sels apart) (same.memo place.sels apart) (was_body place inner t old is runs).0 in
+      saved_made A called place inner t c key past cached keyed
+      ∙ ap (λ (b : Made). saving place c key b) (ap (body_by A called place inner t.outputs t.retry) form ∙ steps_body A called place inner t.outputs t.retry gs)
+
   -- a pod without a cache and a retry, past its lock
   pub pod_template_changes : (place : Place) (inner : Scope) (t : Template) (old z : Made) →
       old ≡ template_made B other place inner t → IsRunning old → t.body ≡ body.Pod → t.retry ≡ None → t.memoize ≡ None →
@@ -199,7 +217,7 @@ module _ (m : Manifest) (A B : Answers) (changed : Sels) (same : SameBut A B cha
 
 module _ (m : Manifest) (A B : Answers) (g : Scope) where
   -- a call that runs went on
-  went_on : (n : ℕ) (prefix : List ℕ) (place : Place) (scope : Scope) (c : Call) (old : Made) → old ≡ calls m B g (suc n) prefix place scope c → IsRunning old →
+  pub went_on : (n : ℕ) (prefix : List ℕ) (place : Place) (scope : Scope) (c : Call) (old : Made) → old ≡ calls m B g (suc n) prefix place scope c → IsRunning old →
       (stopped_before_loop place (kind_named m c.template) scope c.when ≡ None) × (old ≡ each_made m B g (calls m B g n) prefix place scope c c.each)
   went_on n prefix place scope c old is runs =
       let each : Made = each_made m B g (calls m B g n) prefix place scope c c.each in

@@ -1,13 +1,10 @@
 -- A call whose node runs went on to its template.
-use Rattle.std.proofs.Common.{◌≡◌, ℕ, List, ◌∷◌, [], ◌++◌, Bool, true, false, Option, Some, None, Ok, Err, refl, sym, ap, ◌∙◌, cond}
-use Rattle.std.specs.Prelude.{◌&&◌, not}
-use Rattle.tree_types.specs.declared.phase.Phase.{Phase}
-use Rattle.tree_types.specs.declared.phase.Phase.TheVariants.{Running}
+use Rattle.std.proofs.Common.{◌≡◌, ℕ, List, Bool, true, false, Option, Some, None, Ok, Err, refl, sym, ap, ◌∙◌}
+use Rattle.std.specs.Prelude.{not}
 use Rattle.tree_types.specs.declared.node.Kind.{Kind}
 use Rattle.tag_text.specs.declared.part.Part.{Part}
 use Rattle.wf_manifest.specs.declared.calls.Argument.{Argument}
 use Rattle.wf_manifest.specs.declared.calls.Hook.{Hook}
-use Rattle.wf_manifest.specs.declared.calls.Call.{Call}
 use Rattle.wf_manifest.specs.declared.templates.Template.{Template}
 use Rattle.wf_manifest.specs.declared.manifest.Manifest.{Manifest}
 use Rattle.scopes.specs.Substitution.{Found, Scope, has_item_tag}
@@ -15,7 +12,7 @@ use Rattle.meaning.specs.declared.lines.Place.{Place}
 use Rattle.meaning.specs.Answers.{Answers}
 use Rattle.meaning.specs.Lines.{Made}
 use Rattle.meaning.specs.Steps.{Caller}
-use Rattle.meaning.specs.Calls.{template_named, kind_named, template_scope, truth_said, stopped_by, stopped_if, stopped_before_loop, stopped_at_item, unless_stopped, hook_runs, then_hook, hook_made, hooked_if, hooked, template_made, entry, call_by, call_of_template, one_made}
+use Rattle.meaning.specs.Calls.{template_named, template_scope, truth_said, stopped_by, stopped_if, stopped_before_loop, stopped_at_item, unless_stopped, hook_runs, hooked_if, hooked, template_made, entry, call_by, call_of_template}
 use Rattle.tree_change.specs.Entered.{IsRunning, Enters}
 
 -- ---- conditions

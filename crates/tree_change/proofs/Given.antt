@@ -1,5 +1,5 @@
 -- From what is said of a state below to what is said of the one above.
-use Rattle.std.proofs.Common.{◌≡◌, List, [], ◌∷◌, ◌++◌, append_assoc, sym, ap, ap₂, ◌∙◌, subst, Option, Some, None, Result, Ok, Err}
+use Rattle.std.proofs.Common.{◌≡◌, [], ◌∷◌, ◌++◌, append_assoc, sym, ap, ◌∙◌, subst, Option, Some, None, Result, Ok, Err}
 use Rattle.base_types.specs.declared.memory.Memory.{Memory}
 use Rattle.tree_types.specs.declared.path.Sel.{Sel}
 use Rattle.meaning.specs.Answers.{Sels}

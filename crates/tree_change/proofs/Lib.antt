@@ -1,3 +1,5 @@
+mod Beside
+mod Calling
 mod Changing
 mod Entering
 mod Given

@@ -2,8 +2,6 @@
 use Rattle.std.proofs.Common.{◌≡◌, List, Bool, true, false, Option, Some, None, Ok, Err, refl, sym, ap, ◌∙◌}
 use Rattle.std.specs.Prelude.{ℕ}
 use Rattle.tree_types.specs.declared.path.LockId.{LockId}
-use Rattle.tree_types.specs.declared.phase.Phase.{Phase}
-use Rattle.tree_types.specs.declared.phase.Phase.TheVariants.{Running}
 use Rattle.tree_types.specs.Phases.{is_succeeded}
 use Rattle.wf_manifest.specs.declared.templates.Memoize.{Memoize}
 use Rattle.wf_manifest.specs.declared.templates.Template.{Template}
@@ -101,6 +99,22 @@ module _ (A : Answers) (called : Caller) (place : Place) (scope : Scope) (t : Te
   -- a template without a cache is its body past its lock, in any phase
   pub plain_made : t.memoize ≡ None → unlocked (A.granted place.sels) t.lock ≡ true → template_made A called place scope t ≡ body_made A called place scope t
   plain_made plain granted = past_lock t.lock granted ∙ ap (memo_made A called place scope t) plain
+
+  -- what is made past the cache is saved where it is to be
+  remembered_missed : (c : Memoize) (key : List ℕ) (o : Option MemoAnswer) → missed o ≡ true → remembered A called place scope t c key o ≡ saving place c key (body_made A called place scope t)
+  remembered_missed c key None past = absurd (cc)
+  remembered_missed c key (Some None) past = refl
+  remembered_missed c key (Some (Some kept)) past = absurd (cc)
+
+  pub saved_made : (c : Memoize) (key : List ℕ) → IsOpen A place scope t → t.memoize ≡ Some c → said scope c.key ≡ Ok key → template_made A called place scope t ≡ saving place c key (body_made A called place scope t)
+  saved_made c key past cached is =
+      let answer = A.memo place.sels in
+      let none : missed answer ≡ true =
+      sym (ap (λ (f : Found (List ℕ)). unkept f answer) is) ∙ sym (ap (λ (o : Option Memoize). past_cache scope o answer) cached) ∙ past.unkept in
+      past_lock t.lock past.unlocked
+      ∙ ap (memo_made A called place scope t) cached
+      ∙ ap (keyed A called place scope t c) is
+      ∙ remembered_missed c key answer none
 
 -- the same is open by other answers that are alike at its place
 pub open_alike : (A B : Answers) (place : Place) (scope : Scope) (t : Template) → A.granted place.sels ≡ B.granted place.sels → A.memo place.sels ≡ B.memo place.sels → IsOpen B place scope t → IsOpen A place scope t

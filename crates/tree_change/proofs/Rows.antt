@@ -1,5 +1,5 @@
 -- Rows of calls of which one changed.
-use Rattle.std.proofs.Common.{◌≡◌, ℕ, zero, suc, ◌+◌, ◌<◌, List, [], ◌∷◌, ◌++◌, Bool, true, false, cond, Option, Some, None, codes, refl, sym, ap, ap₂, ◌∙◌, arith}
+use Rattle.std.proofs.Common.{◌≡◌, ℕ, zero, suc, ◌+◌, ◌<◌, List, [], ◌∷◌, ◌++◌, Bool, true, false, cond, Some, codes, refl, sym, ap, ap₂, ◌∙◌, arith}
 use Rattle.std.specs.Prelude.{slice_get, map, ◌&&◌}
 use Rattle.std.specs.List.{list_all}
 use Rattle.tree_types.specs.declared.phase.Phase.{Phase}
@@ -11,10 +11,10 @@ use Rattle.wf_manifest.specs.declared.calls.Call.{Call}
 use Rattle.wf_manifest.specs.declared.templates.OutputDecl.{OutputDecl}
 use Rattle.scopes.specs.Substitution.{Scope}
 use Rattle.meaning.specs.declared.lines.Place.{Place}
-use Rattle.meaning.specs.Lines.{numbered, Made, Parts, nothing, call, row_of, row_in, no_outputs, node, made, all_finished}
+use Rattle.meaning.specs.Lines.{numbered, Made, Parts, call, row_of, row_in, no_outputs, node, made, all_finished}
 use Rattle.meaning.specs.Outputs.{computed, ended_node}
 use Rattle.meaning.proofs.Flattening.{row_in_row}
-use Rattle.meaning.specs.Steps.{Caller, Member, member, members, member_place, member_phase, makings, group_phase, group_made, group_tags, Groups, before_groups, group_place, groups_by, members_at, groups_from, steps_phase, steps_by, steps_made}
+use Rattle.meaning.specs.Steps.{Caller, Member, member, member_place, member_phase, makings, group_phase, group_made, group_tags, Groups, before_groups, group_place, groups_by, members_at, groups_from, steps_phase, steps_made}
 use Rattle.meaning.specs.Calls.{loop_node, loop_made}
 use Rattle.tree_state.specs.Replacing.{call_at, replaced, with_call, some_succeeded, all_fell, with_item}
 use Rattle.tree_change.specs.Entered.{IsRunning}

@@ -1,7 +1,6 @@
 -- What is promised of the states that are made where a fact changes a tree.
-use Rattle.std.specs.Prelude.{◌≡◌, ℕ, false, List, ◌∷◌, ◌++◌, [], Option, Some, None, Result, Ok, Err}
+use Rattle.std.specs.Prelude.{◌≡◌, ℕ, false, List, ◌∷◌, ◌++◌, Option, Some, None, Result, Ok, Err}
 use Rattle.base_types.specs.declared.memory.Memory.{Memory}
-use Rattle.tree_types.specs.declared.path.Sel.{Sel}
 use Rattle.tree_types.specs.declared.path.Sel.TheVariants.{Item}
 use Rattle.tree_types.specs.Places.{sels_eq}
 use Rattle.wf_manifest.specs.declared.calls.Call.{Call}

@@ -52,6 +52,14 @@ module _ (m : Manifest) (A : Answers) where
       let counted : count_tops (meant_tops m A) ≡ count main + 0 = ap₂ (λ (b : Made) (o : Option Made). count b + count_exit o) (sym is) none in
       omega (arith, nodes_run m A runs, counted, few)
 
+-- what was made while a workflow ran
+module _ (m : Manifest) (B : Answers) (w : Whole) (is : w ≡ whole m B) where
+  pub ran : w.phase ≡ Running → Runs m B
+  ran running = runs_by_phase m B (sym (ap (λ (w : Whole). w.phase) is) ∙ running)
+
+  pub was_main : Runs m B → w.main ≡ main_made m B
+  was_main runs = ap (λ (w : Whole). w.main) is ∙ ap (λ (q : Pair). q.0) (pair_run m B runs)
+
 -- a workflow that ran, and of which one fact more is recorded below its entrypoint, runs
 pub runs_still : (m : Manifest) (A B : Answers) (changed rest : Sels) → SameBut A B changed → changed ≡ Main ∷ rest → Runs m B → Runs m A
 runs_still m A B changed rest same way runs = record {

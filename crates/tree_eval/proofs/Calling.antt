@@ -1,5 +1,5 @@
 -- The entrypoint and the exit handler, called in scopes with the values that are meant.
-use Rattle.std.proofs.Common.{◌≡◌, ℕ, List, ◌++◌, codes, ap, ◌∙◌, subst}
+use Rattle.std.proofs.Common.{◌≡◌, ℕ, List, ◌++◌, codes, sym, ap, ◌∙◌, subst}
 use Rattle.std.specs.Prelude.{Result}
 use Rattle.tree_types.specs.declared.phase.Phase.{Phase}
 use Rattle.wf_manifest.specs.declared.manifest.Manifest.{Manifest}
@@ -13,6 +13,11 @@ use Rattle.meaning.specs.Trees.{globals_of, root, exit_root, top_call, main_made
 use Rattle.scope_laws.proofs.Calls.{top_call_agrees}
 use Rattle.tree_state.specs.declared.refused.TreeRefused.{TreeRefused}
 use Rattle.tree_state.specs.Counting.{Gives}
+
+-- what the entrypoint made, as a call at its place, in a scope with the same values
+pub main_as_called : (m : Manifest) (A : Answers) (globals : Scope) (place : Place) (old : Made) → HasValuesOf globals (globals_of m) → place ≡ root m → old ≡ main_made m A → old ≡ top_call m A globals place m.entrypoint
+main_as_called m A globals place old same is made =
+    made ∙ sym (ap (λ (p : Place). top_call m A globals p m.entrypoint) is ∙ top_call_agrees m A globals (globals_of m) (root m) m.entrypoint same)
 
 module _ (m : Manifest) (A : Answers) (before after : ℕ) (r : Result Made TreeRefused) (place : Place) where
   -- a call at the same place, in a scope with the same values

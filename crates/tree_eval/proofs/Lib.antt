@@ -2,4 +2,5 @@ mod After
 mod Calling
 mod Firsts
 mod KindNamed
+mod Pods
 mod Running

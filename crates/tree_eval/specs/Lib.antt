@@ -1,4 +1,5 @@
 pub mod After
+pub mod Pods
 pub mod Inside
 pub mod Told
 pub mod Whole

@@ -1,10 +1,12 @@
 //! What the entrypoint makes, and the exit handler.
 
-ghost use Rattle.std.specs.Prelude.{◌≡◌, IfOk, IfSome, OnOk, option_copied, length};
+ghost use Rattle.std.specs.Prelude.{◌≡◌, ◌∷◌, IfOk, IfSome, OnOk, option_copied, option_map, length};
 ghost use Rattle.std.specs.List.{find};
 ghost use Rattle.meaning.specs.Trees.{nodes_in, wants_in, beginnings_in};
 ghost use Rattle.tree_state.specs.Asking.{is_of, first};
-ghost use Rattle.tree_state.specs.Finding.{passes, next_tick, IsFound};
+ghost use Rattle.tree_types.specs.declared.path.Sel.TheVariants.{Main};
+ghost use Rattle.locality.specs.Answered.{SameBut};
+ghost use Rattle.tree_state.specs.Finding.{passes, pods_in, next_tick, IsFound};
 ghost use Rattle.scopes.specs.Values.{HasValuesOf};
 ghost use Rattle.meaning.specs.Trees as trees;
 ghost use Rattle.wf_manifest.specs.Valid.{Valid};
@@ -12,6 +14,7 @@ ghost use Rattle.tree_state.specs.Counting.{Gives};
 ghost use Rattle.tree_state.specs.Telling.{no_lines, told_with};
 ghost use Rattle.tree_walk.specs.Index.{IsReady};
 ghost use Rattle.tree_eval.specs.Inside.Tops as inside;
+ghost use Rattle.tree_eval.specs.Pods.{NoneAmong};
 
 use crate::roots::{exit_place, root_place};
 use base_types::{Memory, Text};
@@ -20,10 +23,11 @@ use hooks_exit::workflow_phase;
 use recorded::Recorded;
 use scopes::Scope;
 use std::alloc::Global;
+use tree_change::made_again;
 use tree_state::{
     Clue, NodeTest, Room, State, Told, TreeRefused, WantKind, WantTest, counts_nodes, sooner,
 };
-use tree_types::{Node, Path, Phase, Want};
+use tree_types::{Node, Path, Phase, Sel, Want};
 use tree_walk::{Positions, positions_of, top_state};
 use wf_manifest::Manifest;
 
@@ -50,6 +54,31 @@ fn main_state<R: Recorded>(
     let template = &manifest.entrypoint;
     top_state(
         manifest, positions, globals, recorded, place, template, room,
+    )
+}
+
+// What the entrypoint makes once one fact more is recorded, by what it made before.
+fn main_again<R: Recorded>(
+    manifest: &Manifest,
+    positions: &Positions,
+    globals: &Scope,
+    recorded: &R,
+    before: &R,
+    old: &State,
+    rest: &[Sel],
+    room: &mut Room,
+) -> Result<State, TreeRefused>
+    requires ready { IsReady manifest.now positions.now }
+    requires said { HasValuesOf globals.now (trees.globals_of manifest.now) }
+    requires same { SameBut (R.answers recorded.now) (R.answers before.now) (Main ∷ rest.now) }
+    requires old { old.now ≡ trees.main_made manifest.now (R.answers before.now) }
+    ensures { Gives room.old room.new result
+        (trees.main_made manifest.now (R.answers recorded.now)) }
+{
+    let place = root_place(manifest)?;
+    let template = &manifest.entrypoint;
+    made_again(
+        manifest, positions, globals, recorded, before, place, template, old, rest, room,
     )
 }
 
@@ -120,6 +149,30 @@ impl Tops {
         Ok(Tops { main, exit })
     }
 
+    /// Both once one fact more is recorded below the entrypoint, by what was made before. `rest` is what the path of the fact has
+    /// behind the entrypoint's node. What is on no way to the fact is shared.
+    pub fn again<R: Recorded>(
+        &self,
+        manifest: &Manifest,
+        positions: &Positions,
+        recorded: &R,
+        before: &R,
+        rest: &[Sel],
+    ) -> Result<Tops, TreeRefused>
+        requires ready { IsReady manifest.now positions.now }
+        requires same { SameBut (R.answers recorded.now) (R.answers before.now) (Main ∷ rest.now) }
+        requires old { self.now.main ≡ trees.main_made manifest.now (R.answers before.now) }
+        ensures { inside.GivesTops result manifest.now (R.answers recorded.now) }
+    {
+        let globals = workflow_scope(manifest.name.allocator(), manifest)?;
+        let mut room = Room::new();
+        let main = main_again(
+            manifest, positions, &globals, recorded, before, &self.main, rest, &mut room,
+        )?;
+        let exit = exit_once(manifest, positions, &globals, recorded, &main, &mut room)?;
+        Ok(Tops { main, exit })
+    }
+
     /// The phase of a workflow that runs.
     pub fn phase(&self) -> Phase
         ensures { result ≡ inside.phase_of self.now }
@@ -175,6 +228,27 @@ impl Tops {
         match &self.exit {
             None => None,
             Some(exit) => exit.find_want(kind, test),
+        }
+    }
+
+    /// The first pod that is asked for and passes a test, in tree order, where none of so many from the first does; and how many
+    /// from the first are known not to.
+    pub fn find_pod_behind<T: WantTest>(&self, known: usize, test: &T) -> Option<(usize, &Want)>
+        ensures first { NoneAmong known (T.accepts test.now) (pods_in (wants_in (inside.lines_of self.now)))
+            → option_map (λ f. f.1.now) result
+            ≡ find (T.accepts test.now) (pods_in (wants_in (inside.lines_of self.now))) }
+        ensures known { NoneAmong known (T.accepts test.now) (pods_in (wants_in (inside.lines_of self.now)))
+            → IfSome result (λ f.
+            NoneAmong f.0 (T.accepts test.now) (pods_in (wants_in (inside.lines_of self.now)))) }
+    {
+        if let Some(found) = self.main.find_pod_from(known, test) {
+            return Some(found);
+        }
+        let Some(exit) = &self.exit else { return None };
+        let before = self.main.pods();
+        match exit.find_pod_from(known.saturating_sub(before), test) {
+            None => None,
+            Some((_, want)) => Some((before, want)),
         }
     }
 

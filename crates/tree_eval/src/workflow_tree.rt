@@ -1,22 +1,28 @@
 //! The tree of a workflow, kept as it was made.
 
-ghost use Rattle.std.specs.Prelude.{◌≡◌, ◌≢◌, Err, IfOk, IfSome, length, option_copied};
+ghost use Rattle.std.specs.Prelude.{◌≡◌, ◌≢◌, ◌∷◌, Err, IfOk, IfSome, length, option_copied, option_map};
 ghost use Rattle.std.specs.List.{find};
 ghost use Rattle.meaning.specs.Trees.{nodes_in, wants_in, beginnings_in};
 ghost use Rattle.tree_state.specs.declared.refused.TreeRefused.TheVariants as refused;
 ghost use Rattle.tree_state.specs.Asking.{is_of, first};
-ghost use Rattle.tree_state.specs.Finding.{passes, next_tick, IsFound};
+ghost use Rattle.tree_state.specs.Finding.{passes, pods_in, next_tick, IsFound};
+ghost use Rattle.tree_types.specs.declared.path.Sel.TheVariants.{Main};
+ghost use Rattle.tree_types.specs.declared.phase.Phase.TheVariants.{Running};
+ghost use Rattle.locality.specs.Answered.{SameBut};
 ghost use Rattle.wf_manifest.specs.Valid.{Valid};
 ghost use Rattle.tree_walk.specs.Index.{IsReady};
-ghost use Rattle.tree_eval.specs.After.{Follows};
+ghost use Rattle.tree_eval.specs.After.{IsMeant};
+ghost use Rattle.tree_eval.specs.Pods.{NoneAmong};
+ghost use Rattle.tree_eval.specs.Inside.Stages.{GivesWhole, RunsOn};
 ghost use Rattle.tree_eval.specs.Told.{evaluated};
-ghost use Rattle.tree_eval.specs.Whole.{meant_whole, lines_of};
+ghost use Rattle.tree_eval.specs.Whole.{whole, meant_whole, lines_of};
 
 use crate::stages::{awaited, pending, running, waiting};
 use crate::tops::Tops;
 use crate::{Evaluated, Recorded, TreeRefused};
 use base_types::Memory;
 use base_types::limits::MOST_NODES;
+use hooks_exit::law::phase_is_meant;
 use std::alloc::Global;
 use std::marker::Model;
 use tree_change::{changed_top, split};
@@ -69,17 +75,21 @@ impl WorkflowTree {
         }
     }
 
-    /// The tree once one fact more is recorded, where it follows from this one: the path of the fact is `changed`, and what is
-    /// on no way to it is shared. There is none where the tree has to be made anew.
+    /// The tree once one fact more is recorded, made from this one: the path of the fact is `changed`, `before` is what was
+    /// recorded without it, and what is on no way to it is shared. There is none where the tree has to be made anew: where the
+    /// workflow did not run, and where the fact is none of the entrypoint.
     pub fn after<R: Recorded>(
         &self,
         manifest: &Manifest,
         positions: &Positions,
         recorded: &R,
+        before: &R,
         changed: &[Sel],
-    ) -> Result<Option<WorkflowTree>, Memory>
+    ) -> Result<Option<WorkflowTree>, TreeRefused>
         requires ready { IsReady manifest.now positions.now }
-        ensures { Follows self.now manifest.now (R.answers recorded.now) changed.now result }
+        requires same { SameBut (R.answers recorded.now) (R.answers before.now) changed.now }
+        requires tree { self.now ≡ whole manifest.now (R.answers before.now) }
+        ensures { IsMeant manifest.now (R.answers recorded.now) result }
     {
         let Phase::Running = self.phase else {
             return Ok(None);
@@ -90,6 +100,27 @@ impl WorkflowTree {
         let Sel::Main = first else {
             return Ok(None);
         };
+        match self.along(manifest, positions, recorded, before, rest)? {
+            Some(tree) => Ok(Some(tree)),
+            None => Ok(Some(self.again(manifest, positions, recorded, before, rest)?)),
+        }
+    }
+
+    // The same, where it goes on below the entrypoint and no more changes than the nodes on the way to the fact.
+    fn along<R: Recorded>(
+        &self,
+        manifest: &Manifest,
+        positions: &Positions,
+        recorded: &R,
+        before: &R,
+        rest: &[Sel],
+    ) -> Result<Option<WorkflowTree>, Memory>
+        requires ready { IsReady manifest.now positions.now }
+        requires same { SameBut (R.answers recorded.now) (R.answers before.now) (Main ∷ rest.now) }
+        requires tree { self.now ≡ whole manifest.now (R.answers before.now) }
+        requires runs { self.now.phase ≡ Running }
+        ensures { RunsOn manifest.now (R.answers recorded.now) result }
+    {
         let old = &self.tops.main;
         let entry = &manifest.entrypoint;
         let Some(main) = changed_top(manifest, positions, recorded, old, entry, rest)? else {
@@ -105,6 +136,29 @@ impl WorkflowTree {
             tops: Tops { main, exit: None },
             phase: Phase::Running,
         }))
+    }
+
+    // The same, whatever changes.
+    fn again<R: Recorded>(
+        &self,
+        manifest: &Manifest,
+        positions: &Positions,
+        recorded: &R,
+        before: &R,
+        rest: &[Sel],
+    ) -> Result<WorkflowTree, TreeRefused>
+        requires ready { IsReady manifest.now positions.now }
+        requires same { SameBut (R.answers recorded.now) (R.answers before.now) (Main ∷ rest.now) }
+        requires tree { self.now ≡ whole manifest.now (R.answers before.now) }
+        requires runs { self.now.phase ≡ Running }
+        ensures { GivesWhole result manifest.now (R.answers recorded.now) }
+    {
+        phase_is_meant();
+        let tops = self
+            .tops
+            .again(manifest, positions, recorded, before, rest)?;
+        let phase = tops.phase();
+        Ok(WorkflowTree { tops, phase })
     }
 
     /// The phase of the workflow.
@@ -141,6 +195,19 @@ impl WorkflowTree {
             ≡ find (passes kind (T.accepts test.now)) (wants_in (lines_of self.now)) }
     {
         self.tops.find_want(kind, test)
+    }
+
+    /// The first pod that is asked for and passes a test, in tree order, where none of so many from the first does; and how many
+    /// from the first are known not to.
+    pub fn find_pod_behind<T: WantTest>(&self, known: usize, test: &T) -> Option<(usize, &Want)>
+        ensures first { NoneAmong known (T.accepts test.now) (pods_in (wants_in (lines_of self.now)))
+            → option_map (λ f. f.1.now) result
+            ≡ find (T.accepts test.now) (pods_in (wants_in (lines_of self.now))) }
+        ensures known { NoneAmong known (T.accepts test.now) (pods_in (wants_in (lines_of self.now)))
+            → IfSome result (λ f.
+            NoneAmong f.0 (T.accepts test.now) (pods_in (wants_in (lines_of self.now)))) }
+    {
+        self.tops.find_pod_behind(known, test)
     }
 
     /// The first node, in tree order, that passes a test.

@@ -1,7 +1,9 @@
 -- What speaks only of private code.
-use Rattle.std.specs.Prelude.{◌≡◌}
+use Rattle.std.specs.Prelude.{◌≡◌, [], ◌∷◌, ◌++◌, Option}
+use Rattle.tree_types.specs.declared.fact.Fact.{Fact}
 use Rattle.wf_manifest.specs.declared.manifest.Manifest.{Manifest}
-use Rattle.meaning.specs.Answers.{Facts, answers}
+use Rattle.meaning.specs.Answers.{Sels, Facts, answers}
+use Rattle.locality.specs.Answered.{sels_of}
 use Rattle.tree_walk.specs.Index.{IsReady}
 use Rattle.tree_eval.specs.Whole.{Whole, whole}
 use Rattle.tree_incr.specs.Workflows.{Workflow}
@@ -13,6 +15,12 @@ workflow_of a = record { manifest = a.valid.value; facts = a.facts }
 -- the tree that a manifest means over some facts
 pub record IsTreeOf (t : Whole) (m : Manifest) (J : Facts) : Type 0 where
   pub meant : t ≡ whole m (answers J)
+
+-- one fact more is recorded, of this path
+pub record IsOneMore (J more : Facts) (changed : Option Sels) : Type 0 where
+  pub fact : Fact
+  pub added : more ≡ J ++ fact ∷ []
+  pub path : changed ≡ sels_of fact
 
 -- the manifest may be walked over, and the tree is what it means over the facts
 pub record IsKept (a : Inside) : Type 0 where

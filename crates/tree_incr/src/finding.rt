@@ -1,12 +1,13 @@
 //! What stands in a workflow's tree, found without a list of it.
 
-ghost use Rattle.std.specs.Prelude.{◌≡◌, ◌&&◌, bytes_eq, option_copied};
+ghost use Rattle.std.specs.Prelude.{◌≡◌, ◌&&◌, IfSome, bytes_eq, option_copied, option_map};
 ghost use Rattle.std.specs.List.{find};
 ghost use Rattle.tree_types.specs.Places.{sels_eq};
 ghost use Rattle.wf_manifest.specs.Valid.{Valid};
 ghost use Rattle.meaning.specs.Trees as trees;
 ghost use Rattle.tree_state.specs.Asking.{is_of};
-ghost use Rattle.tree_state.specs.Finding.{fits, next_tick};
+ghost use Rattle.tree_eval.specs.Pods.{NoneAmong};
+ghost use Rattle.tree_state.specs.Finding.{fits, pods_in, next_tick};
 
 use crate::TreeState;
 use base_types::Text;
@@ -23,6 +24,22 @@ impl TreeState {
     {
         lines_are_meant();
         self.tree.find_want(kind, test)
+    }
+
+    /// The first pod that is asked for and passes a test, in tree order, where none of so many from the first does; and how many
+    /// from the first are known not to.
+    pub fn find_pod_behind<T: WantTest>(&self, known: usize, test: &T) -> Option<(usize, &Want)>
+        ensures first { NoneAmong known (T.accepts test.now)
+            (pods_in (trees.wants self.now.manifest self.now.facts))
+            → option_map (λ f. f.1.now) result
+            ≡ find (T.accepts test.now) (pods_in (trees.wants self.now.manifest self.now.facts)) }
+        ensures known { NoneAmong known (T.accepts test.now)
+            (pods_in (trees.wants self.now.manifest self.now.facts))
+            → IfSome result (λ f. NoneAmong f.0 (T.accepts test.now)
+            (pods_in (trees.wants self.now.manifest self.now.facts))) }
+    {
+        lines_are_meant();
+        self.tree.find_pod_behind(known, test)
     }
 
     /// The first node, in tree order, that passes a test.

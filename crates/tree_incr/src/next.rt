@@ -1,14 +1,14 @@
 //! The tree of a workflow, made anew or from the one before.
 
-ghost use Rattle.std.specs.Prelude.{◌≡◌, ◌≢◌, [], ◌∷◌, ◌++◌, Err, IfOk};
-ghost use Rattle.tree_types.specs.declared.fact.Fact.{Fact};
+ghost use Rattle.std.specs.Prelude.{◌≡◌, ◌≢◌, [], Err, IfOk};
 ghost use Rattle.wf_manifest.specs.Valid.{Valid};
-ghost use Rattle.meaning.specs.Answers.{Facts, answers};
+ghost use Rattle.meaning.specs.Answers.{answers};
 ghost use Rattle.locality.specs.Answered.{sels_of};
 ghost use Rattle.tree_state.specs.declared.refused.TreeRefused.TheVariants as refused;
 ghost use Rattle.tree_walk.specs.Index.{IsReady};
 ghost use Rattle.tree_eval.specs.Whole.{whole, meant_whole};
 ghost use Rattle.tree_eval.specs.After.{IsMeant};
+ghost use Rattle.tree_incr.specs.Inside.{IsOneMore};
 
 use base_types::{Memory, TryCopy};
 use locality::facts::facts_are_local;
@@ -53,35 +53,37 @@ fn following(
     manifest: &Manifest,
     positions: &Positions,
     before: &WorkflowTree,
+    known: &SharedFacts,
     facts: &SharedFacts,
     changed: &Option<Sels>,
-) -> Result<Option<WorkflowTree>, Memory>
+) -> Result<Option<WorkflowTree>, TreeRefused>
     requires ready { IsReady manifest.now positions.now }
-    ensures { (J : Facts) (f : Fact) → before.now ≡ whole manifest.now (answers J) →
-        facts.now ≡ J ++ f ∷ [] → changed.now ≡ sels_of f →
-        IsMeant manifest.now (answers facts.now) result }
+    requires tree { before.now ≡ whole manifest.now (answers known.now) }
+    requires more { IsOneMore known.now facts.now changed.now }
+    ensures { IsMeant manifest.now (answers facts.now) result }
 {
     facts_are_local();
     match changed {
         None => Ok(None),
-        Some(sels) => before.after(manifest, positions, facts, sels.as_slice()),
+        Some(sels) => before.after(manifest, positions, facts, known, sels.as_slice()),
     }
 }
 
-/// The tree once a fact is recorded behind those before. Where it does not follow from the tree before it is made anew.
+/// The tree once a fact is recorded behind those that were known. Where it does not follow from the tree before it is made anew.
 pub fn next_tree(
     manifest: &Manifest,
     positions: &Positions,
     before: &WorkflowTree,
+    known: &SharedFacts,
     facts: &SharedFacts,
     changed: &Option<Sels>,
 ) -> Result<WorkflowTree, TreeRefused>
     requires ready { IsReady manifest.now positions.now }
-    ensures { (J : Facts) (f : Fact) → before.now ≡ whole manifest.now (answers J) →
-        facts.now ≡ J ++ f ∷ [] → changed.now ≡ sels_of f →
-        result ≢ Err refused.Memory → result ≡ meant_whole manifest.now (answers facts.now) }
+    requires tree { before.now ≡ whole manifest.now (answers known.now) }
+    requires more { IsOneMore known.now facts.now changed.now }
+    ensures { result ≢ Err refused.Memory → result ≡ meant_whole manifest.now (answers facts.now) }
 {
-    match following(manifest, positions, before, facts, changed)? {
+    match following(manifest, positions, before, known, facts, changed)? {
         Some(tree) => Ok(tree),
         None => WorkflowTree::of(manifest, facts),
     }

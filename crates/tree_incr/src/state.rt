@@ -1,14 +1,12 @@
 //! A workflow with its tree.
 
-ghost use Rattle.std.specs.Prelude.{◌≡◌, ◌≢◌, [], ◌∷◌, ◌++◌, Err, IfOk, length, option_copied};
+ghost use Rattle.std.specs.Prelude.{◌≡◌, ◌≢◌, Err, IfOk, length, option_copied};
 ghost use Rattle.std.specs.List.{find};
 ghost use Rattle.wf_manifest.specs.Valid.{Valid as IsValid};
 ghost use Rattle.meaning.specs.Answers.{answers};
 ghost use Rattle.meaning.specs.Trees as trees;
 ghost use Rattle.tree_state.specs.declared.refused.TreeRefused.TheVariants as refused;
 ghost use Rattle.tree_state.specs.Asking.{is_of, first};
-ghost use Rattle.tree_types.specs.declared.fact.Fact.{Fact};
-ghost use Rattle.locality.specs.Answered.{sels_of};
 ghost use Rattle.tree_eval.specs.Whole.{meant_whole};
 ghost use Rattle.tree_incr.specs.Workflows.{unstarted, added, told};
 
@@ -63,6 +61,8 @@ impl Model for TreeState {
 }
 
 impl TreeState {
+    ghost use Rattle.tree_incr.specs.Inside.{IsTreeOf, IsOneMore};
+
     /// A workflow of which nothing is recorded yet.
     pub fn new(valid: Valid) -> Result<TreeState, Memory>
         requires { IsValid valid }
@@ -99,14 +99,20 @@ impl TreeState {
         facts: &SharedFacts,
         changed: &Option<Sels>,
     ) -> Result<WorkflowTree, TreeRefused>
-        ensures { (f : Fact) → facts.now ≡ self.now.facts ++ f ∷ [] → changed.now ≡ sels_of f →
-            result ≢ Err refused.Memory → result ≡ meant_whole self.now.manifest (answers facts.now) }
+        requires { IsOneMore self.now.facts facts.now changed.now }
+        ensures { result ≢ Err refused.Memory
+            → result ≡ meant_whole self.now.manifest (answers facts.now) }
     {
         let manifest = self.valid.manifest();
-        next_tree(manifest, &self.positions, &self.tree, facts, changed)
+        next_tree(
+            manifest,
+            &self.positions,
+            &self.tree,
+            &self.facts,
+            facts,
+            changed,
+        )
     }
-
-    ghost use Rattle.tree_incr.specs.Inside.{IsTreeOf};
 
     // The same manifest over other facts and their tree.
     fn over(&self, facts: SharedFacts, tree: WorkflowTree) -> Result<TreeState, Memory>

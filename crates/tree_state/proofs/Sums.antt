@@ -1,5 +1,5 @@
 -- What is kept of lines, where lines are put together.
-use Rattle.std.proofs.Common.{Option, ◌≡◌, ℕ, suc, ◌+◌, ◌<◌, length, get_or, take, List, [], ◌∷◌, ◌++◌, Bool, true, ◌||◌, Some, None, sym, ap, ap₂, ◌∙◌, arith}
+use Rattle.std.proofs.Common.{Option, ◌≡◌, ℕ, suc, ◌+◌, ◌<◌, length, length-append, get_or, take, List, [], ◌∷◌, ◌++◌, Bool, true, ◌||◌, Some, None, sym, ap, ap₂, ◌∙◌, arith}
 use Rattle.std.proofs.lemmas.List.{map-append, take_more}
 use Rattle.std.specs.Prelude.{map}
 use Rattle.std.specs.declared.sync.Arc.{Arc}
@@ -23,9 +23,10 @@ use Rattle.tree_state.specs.Inside.Kids.{line_then, state_then, kid_parts, parts
 use Rattle.tree_state.specs.Inside.Lower.{line_alone}
 use Rattle.tree_state.specs.Asking.{is_of, ask_for}
 use Rattle.tree_state.specs.Counting.{count_below}
-use Rattle.tree_state.specs.Inside.Sums.{let_begin, asks_in, both_ask, sum_of}
+use Rattle.tree_state.specs.Inside.Sums.{let_begin, asks_in, both_ask, sum_of, sum_with}
 use Rattle.tree_state.proofs.Counts.{count_then}
 use Rattle.tree_state.proofs.Kids.{kid_then, pushed}
+use Rattle.tree_state.proofs.Positions.{pods_among, pods_then}
 use Rattle.tree_state.proofs.Tellings.{filter_append}
 
 ask_then : (k : WantKind) (a b : List Line) → ask_for k (a ++ b) ≡ (ask_for k a || ask_for k b)
@@ -50,9 +51,10 @@ asks_then a b = λ i. record {
 }
 
 -- parts behind others
-pub sum_then : (p q : Parts) → sum_of (then_parts p q) ≡ record { nodes = count_below p + count_below q; asks = both_ask (asks_in (lines_below p)) (asks_in (lines_below q)) }
+pub sum_then : (p q : Parts) → sum_of (then_parts p q) ≡ sum_with (sum_of p) (sum_of q)
 sum_then p q = λ i. record {
   nodes = count_then p q i;
+  pods = (ap (λ (ls : List Line). length (pods_among ls)) (lines_then p q) ∙ ap (λ (ws : List Want). length ws) (pods_then (lines_below p) (lines_below q)) ∙ length-append (pods_among (lines_below p)) (pods_among (lines_below q))) i;
   asks = (ap asks_in (lines_then p q) ∙ asks_then (lines_below p) (lines_below q)) i;
 }
 
@@ -61,12 +63,11 @@ one_more n = omega arith
 
 -- ---- what is kept, once a kid is added
 
-pub kid_kept : (kids : List Kid) (k : Kid) (s sum : Sum) (n : ℕ) (a : Asks) → s ≡ sum_of (parts_of kids) → n ≡ count_below (kid_parts k) → a ≡ asks_in (lines_below (kid_parts k)) → sum ≡ record { nodes = s.nodes + n; asks = both_ask s.asks a } → sum ≡ sum_of (parts_of (kids ++ k ∷ []))
-kid_kept kids k s sum n a was counted is given =
-    given
-    ∙ ap₂ (λ (t : Sum) (b : Asks). record { nodes = t.nodes + n; asks = both_ask t.asks b }) was is
-    ∙ ap (λ (i : ℕ). record { nodes = count_below (parts_of kids) + i; asks = both_ask (asks_in (lines_below (parts_of kids))) (asks_in (lines_below (kid_parts k))) }) counted
-    ∙ sym (ap sum_of (pushed kids k) ∙ sum_then (parts_of kids) (kid_parts k))
+pub kid_kept : (kids : List Kid) (k : Kid) (s sum : Sum) (n pods : ℕ) (a : Asks) → s ≡ sum_of (parts_of kids) → n ≡ count_below (kid_parts k) → pods ≡ length (pods_among (lines_below (kid_parts k))) → a ≡ asks_in (lines_below (kid_parts k)) →
+    sum ≡ sum_with s (record { nodes = n; pods = pods; asks = a }) → sum ≡ sum_of (parts_of (kids ++ k ∷ []))
+kid_kept kids k s sum n pods a was counted asked is given =
+    let added : record { nodes = n; pods = pods; asks = a } ≡ sum_of (kid_parts k) = λ i. record { nodes = counted i; pods = asked i; asks = is i } in
+    given ∙ ap₂ sum_with was added ∙ sym (ap sum_of (pushed kids k) ∙ sum_then (parts_of kids) (kid_parts k))
 
 -- ---- what a kid asks for, and how many nodes it has
 

@@ -20,6 +20,12 @@ Takes before after (Ok u) = before ≡ suc after
 Takes before after (Err TooLarge) = before ≡ 0
 Takes before after (Err Memory) = Unit {0}
 
+-- the room of so many nodes is taken, or there is too little
+abbrev pub TakesAll : ℕ → ℕ → ℕ → Result (Unit {0}) TreeRefused → Type 0
+TakesAll n before after (Ok u) = after + n ≡ before
+TakesAll n before after (Err TooLarge) = before < n
+TakesAll n before after (Err Memory) = Unit {0}
+
 -- what a call makes, for which the room is taken; or there is too little room for it
 abbrev pub Gives : ℕ → ℕ → Result Made TreeRefused → Made → Type 0
 Gives before after (Ok s) m = (s ≡ m) × (after + count m ≡ before)

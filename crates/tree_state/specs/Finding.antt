@@ -1,6 +1,6 @@
 -- What is found in what a call makes.
-use Rattle.std.specs.Prelude.{◌≡◌, ℕ, Bool, true, ◌&&◌, List, [], ◌∷◌, Option, Some, None, min, nat_lt, bytes_eq, if◌then◌else◌, filter_map}
-use Rattle.std.specs.List.{Contains}
+use Rattle.std.specs.Prelude.{◌≡◌, ℕ, suc, Bool, true, ◌&&◌, List, [], ◌∷◌, Option, Some, None, min, nat_lt, nat_le, bytes_eq, if◌then◌else◌, filter_map}
+use Rattle.std.specs.List.{Contains, filter}
 use Rattle.tree_types.specs.declared.node.Node.{Node}
 use Rattle.tree_types.specs.declared.want.Want.{Want}
 use Rattle.tree_types.specs.declared.want.Want.TheVariants as want
@@ -9,6 +9,7 @@ use Rattle.meaning.specs.declared.lines.Line.{Line}
 use Rattle.meaning.specs.Lines.{Made, lines_in}
 use Rattle.meaning.specs.Trees.{nodes_in}
 use Rattle.tree_state.specs.declared.kinds.WantKind.{WantKind}
+use Rattle.tree_state.specs.declared.kinds.WantKind.TheVariants.{Pod}
 use Rattle.tree_state.specs.declared.clue.Clue.{Clue}
 use Rattle.tree_state.specs.declared.clue.Clue.TheVariants as clue
 use Rattle.tree_state.specs.Asking.{is_of}
@@ -16,6 +17,22 @@ use Rattle.tree_state.specs.Asking.{is_of}
 -- a want is of a kind, and passes a test
 abbrev pub passes : WantKind → (Want → Bool) → Want → Bool
 passes k accepts w = is_of k w && accepts w
+
+-- ---- pods
+
+-- those of kind Pod
+abbrev pub pods_in : List Want → List Want
+pods_in ws = filter (is_of Pod) ws
+
+-- the first that passes a test from a position on, with its position, where the first of all has this one
+abbrev pub found_at : ℕ → ℕ → (Want → Bool) → List Want → Option (ℕ × Want)
+found_at from at accepts [] = None
+found_at from at accepts (w ∷ ws) =
+    if nat_le from at && accepts w then Some (at, w) else found_at from (suc at) accepts ws
+
+-- the same where the first of all has position 0
+abbrev pub found_from : ℕ → (Want → Bool) → List Want → Option (ℕ × Want)
+found_from from accepts ws = found_at from 0 accepts ws
 
 -- ---- timers
 

@@ -2,7 +2,7 @@
 
 ghost use Rattle.std.specs.Prelude.{◌≡◌, ◌≤◌};
 ghost use Rattle.base_types.specs.Limits.{most_nodes};
-ghost use Rattle.tree_state.specs.Counting.{Takes};
+ghost use Rattle.tree_state.specs.Counting.{Takes, TakesAll};
 
 use crate::TreeRefused;
 use base_types::limits::MOST_NODES;
@@ -42,6 +42,18 @@ impl Room {
             return Err(TreeRefused::TooLarge);
         }
         self.left -= 1;
+        Ok(())
+    }
+
+    /// Takes the room of so many nodes, or of none where there is less.
+    pub fn take_all(&mut self, count: usize) -> Result<(), TreeRefused>
+        ensures takes { TakesAll count self.old self.new result }
+        ensures few { self.new ≤ most_nodes }
+    {
+        if self.left < count {
+            return Err(TreeRefused::TooLarge);
+        }
+        self.left -= count;
         Ok(())
     }
 }

@@ -14,8 +14,8 @@ ghost use Rattle.tree_state.specs.Inside.Sums.{asks_in};
 
 use crate::kinds::Asks;
 use crate::sum::Sum;
-use crate::{Below, Told, WantKind};
-use base_types::{Memory, TryCopy};
+use crate::{Below, Shared, Told, WantKind};
+use base_types::{List, Memory, TryCopy};
 use std::marker::Model;
 use std::sync::Arc;
 use tree_types::{Node, Path, Phase, Want, Wants, fulfilled};
@@ -71,7 +71,7 @@ pub(crate) struct Kid {
 /// What a call makes: its node, what the node asks for, what others see of the call, and what stands below it. Contracts see
 /// it as the meaning has it, whatever is shared.
 #[cycle(state)]
-#[derive(Debug, Drop)]
+#[derive(Debug)]
 pub struct State {
     pub(crate) node: Node,
     pub(crate) wants: Wants,
@@ -80,6 +80,22 @@ pub struct State {
     all_failed: bool,
     pub(crate) kids: Vec<Kid>,
     pub(crate) sum: Sum,
+}
+
+// Written out, so that proofs about code that drops a state see one call.
+impl Drop for State {
+    #[cycle(state)]
+    fn drop(self) {
+        let State {
+            node: _,
+            wants: _,
+            finished: _,
+            any_succeeded: _,
+            all_failed: _,
+            kids: _,
+            sum: _,
+        } = self;
+    }
 }
 
 impl Model for State {
@@ -138,14 +154,15 @@ impl State {
     pub fn new(node: Node, wants: Wants, below: Below) -> State
         ensures { result ≡ lines.made node wants below }
     {
+        let (kids, sum) = below.into_kept();
         State {
             finished: fulfilled(node.phase),
             any_succeeded: false,
             all_failed: false,
             node,
             wants,
-            kids: below.kids,
-            sum: below.sum,
+            kids,
+            sum,
         }
     }
 
@@ -154,14 +171,15 @@ impl State {
         ensures { result ≡ of_loop node any_succeeded all_failed below }
     {
         let alloc = node.name.allocator();
+        let (kids, sum) = below.into_kept();
         State {
             finished: fulfilled(node.phase),
             any_succeeded,
             all_failed,
             node,
             wants: Wants::new(alloc),
-            kids: below.kids,
-            sum: below.sum,
+            kids,
+            sum,
         }
     }
 
@@ -171,7 +189,7 @@ impl State {
     {
         let finished = hook.finished;
         let kid = Kid::of(hook)?;
-        let sum = self.sum.and(kid.count(), kid.asks())?;
+        let sum = self.sum.and(kid.count(), kid.pods(), kid.asks())?;
         self.kids.push(kid)?;
         self.sum = sum;
         self.finished = finished;
@@ -257,6 +275,20 @@ impl State {
         None
     }
 
+    /// What the calls below the node made, each shared with this state.
+    pub fn calls(&self) -> Result<List<Shared>, Memory>
+        ensures { IfOk result (λ calls. calls ≡ row_in self.now.parts) }
+    {
+        let mut calls = List::new(self.node.name.allocator());
+        for kid in &self.kids {
+            if let Some(state) = &kid.state {
+                let state = Arc::try_clone(state)?;
+                calls.push(Shared { state })?;
+            }
+        }
+        Ok(calls)
+    }
+
     /// Whether all calls below the node are finished.
     pub fn all_finished(&self) -> bool
         ensures { result ≡ lines.all_finished (row_in self.now.parts) }
@@ -321,14 +353,17 @@ impl State {
         for kid in &self.kids {
             below.add(kid.or_replaced(&mut left, &mut call)?)?;
         }
+        let node = self.node.copy()?;
+        let wants = self.wants.copy()?;
+        let (kids, sum) = below.into_kept();
         Ok(State {
-            node: self.node.copy()?,
-            wants: self.wants.copy()?,
+            node,
+            wants,
             finished: self.finished,
             any_succeeded: self.any_succeeded,
             all_failed: self.all_failed,
-            kids: below.kids,
-            sum: below.sum,
+            kids,
+            sum,
         })
     }
 
@@ -404,6 +439,16 @@ impl Kid {
         let alloc = state.node.name.allocator();
         let state = Some(Arc::new(alloc, state)?);
         Ok(Kid { line: None, state })
+    }
+
+    /// What a call made, which is shared.
+    pub(crate) fn of_shared(shared: Shared) -> Kid
+        ensures { kid_parts result ≡ lines.row_of (shared ∷ []) }
+    {
+        Kid {
+            line: None,
+            state: Some(shared.into_arc()),
+        }
     }
 
     pub(crate) fn count(&self) -> usize

@@ -1,8 +1,6 @@
 -- What a call makes, step by step.
 use Rattle.std.proofs.Common.{◌≡◌, ℕ, zero, suc, ◌+◌, ◌-◌, ◌<◌, ◌≤◌, Bool, true, false, List, [], ◌∷◌, ◌++◌, Option, Some, None, Result, Ok, Err, refl, sym, ap, ◌∙◌, subst, arith}
-use Rattle.std.proofs.lemmas.Bool.{cases_Bool}
 use Rattle.serde_json.specs.Data.{Data}
-use Rattle.tree_types.specs.declared.node.Kind.{Kind}
 use Rattle.tree_types.specs.Phases.{is_succeeded}
 use Rattle.wf_manifest.specs.declared.calls.Argument.{Argument}
 use Rattle.wf_manifest.specs.declared.calls.Hook.{Hook}
@@ -11,26 +9,24 @@ use Rattle.wf_manifest.specs.declared.templates.Template.{Template}
 use Rattle.wf_manifest.specs.declared.templates.Memoize.{Memoize}
 use Rattle.wf_manifest.specs.declared.templates.OutputDecl.{OutputDecl}
 use Rattle.wf_manifest.specs.declared.manifest.Manifest.{Manifest}
-use Rattle.scopes.specs.Substitution.{Found, Scope}
+use Rattle.scopes.specs.Substitution.{Scope}
 use Rattle.scopes.specs.Values.{HasValuesOf}
 use Rattle.fanout.specs.ItemTexts.{item_tags}
 use Rattle.meaning.specs.declared.lines.Place.{Place}
-use Rattle.meaning.specs.Answers.{Answers, MemoAnswer}
+use Rattle.meaning.specs.Answers.{Answers}
 use Rattle.meaning.specs.Lines.{Made, row_of, tags_of}
-use Rattle.meaning.specs.Outputs.{computed}
-use Rattle.meaning.specs.Steps.{Caller, Groups, groups_from, steps_by, steps_made}
-use Rattle.meaning.specs.Calls.{template_named, kind_named, template_scope, stopped_before_loop, unless_stopped, hook_runs, hook_place, then_hook, item_place, saving_if, saving, remembered, template_made, entry, call_by, call_of_template, hook_made, hooked_if, hooked, one_made, item_made, each_made, call_made, calls}
+use Rattle.meaning.specs.Steps.{Caller, groups_from, steps_by, steps_made}
+use Rattle.meaning.specs.Calls.{template_named, kind_named, template_scope, stopped_before_loop, unless_stopped, hook_runs, hook_place, then_hook, item_place, saving_if, saving, template_made, entry, call_by, call_of_template, hook_made, hooked_if, hooked, one_made, item_made, each_made, calls}
 use Rattle.tree_state.specs.declared.refused.TreeRefused.{TreeRefused}
 use Rattle.tree_state.specs.declared.refused.TreeRefused.TheVariants.{TooLarge, Memory}
-use Rattle.tree_state.specs.Counting.{count, count_below, Gives}
+use Rattle.tree_state.specs.Counting.{count, Gives}
 use Rattle.tree_state.proofs.Counts.{count_then}
 use Rattle.call_texts.specs.Told.{Stops, StandsFor}
-use Rattle.row_states.specs.Rows.{count_row}
 use Rattle.scope_laws.specs.Agreeing.{Agree, FollowAlike}
 use Rattle.scope_laws.proofs.Bodies.{steps_by_agrees}
 use Rattle.scope_laws.proofs.Calls.{calls_agree, calls_of_templates_agree, one_agrees, templates_agree}
 use Rattle.tree_walk.specs.declared.over.Row.{Row}
-use Rattle.tree_walk.specs.Inside.Walking.{AddsHook, GivesGroups, groups_kept}
+use Rattle.tree_walk.specs.Walking.{AddsHook, GivesGroups, groups_kept}
 
 module _ (m : Manifest) (A : Answers) (g : Scope) where
   -- calls with so many depths left agree with themselves

@@ -1,5 +1,5 @@
 -- A DAG over its tasks.
-use Rattle.std.proofs.Common.{◌≡◌, ℕ, zero, suc, ◌+◌, ◌<◌, ◌≤◌, ◌^◌, List, [], ◌∷◌, length, get_or, slice_index_or, Option, Some, None, Result, Ok, Err, refl, sym, ap, ◌∙◌, subst, arith}
+use Rattle.std.proofs.Common.{◌≡◌, ℕ, zero, suc, ◌+◌, ◌<◌, ◌≤◌, ◌^◌, List, [], ◌∷◌, length, Some, Ok, Err, refl, ap, subst, arith}
 use Rattle.std.specs.Prelude.{slice_get, IsTrue, All}
 use Rattle.std.proofs.lemmas.Bool.{leb-true}
 use Rattle.std.proofs.lemmas.List.Elements.{All-head, All-tail}
@@ -8,22 +8,20 @@ use Rattle.node_names.specs.Names.{is_step_name}
 use Rattle.wf_manifest.specs.declared.calls.Task.{Task}
 use Rattle.wf_manifest.specs.declared.calls.Dag.{Dag}
 use Rattle.wf_manifest.specs.declared.templates.OutputDecl.{OutputDecl}
-use Rattle.wf_manifest.specs.Valid.{is_short}
 use Rattle.scopes.specs.Substitution.{Scope}
 use Rattle.meaning.specs.declared.lines.Place.{Place}
 use Rattle.meaning.specs.Answers.{Answers}
 use Rattle.meaning.specs.Lines.{Made, numbered}
 use Rattle.meaning.specs.Steps.{Caller}
-use Rattle.meaning.specs.Dags.{Standings, standings, rounds, standings_by, look, with_standing, is_doomed, dag_made}
+use Rattle.meaning.specs.Dags.{Standings, standings, rounds, look, with_standing, is_doomed, dag_made}
 use Rattle.tree_state.specs.declared.refused.TreeRefused.{TreeRefused}
 use Rattle.tree_state.specs.declared.refused.TreeRefused.TheVariants.{TooLarge, Memory}
 use Rattle.tree_state.specs.Counting.{count, Gives}
 use Rattle.dag_plan.specs.declared.plan.DagPlan.{DagPlan}
 use Rattle.dag_plan.specs.Plans.{IsPlan}
 use Rattle.dag_board.specs.declared.board.Board.{Board}
-use Rattle.dag_board.specs.Boards.{IsBoard}
 use Rattle.dag_board.specs.Ends.{Makes}
-use Rattle.tree_walk.specs.Inside.Walkable.{IsNamed, IsWalkableDag}
+use Rattle.tree_walk.specs.Walkable.{IsNamed, IsWalkableDag}
 use Rattle.tree_walk.specs.Inside.Tasks.{count_at, GivesBoard}
 use Rattle.tree_walk.proofs.Sums.{counted_in_order}
 

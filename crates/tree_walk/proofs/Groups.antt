@@ -1,23 +1,22 @@
 -- Groups and their members, one after the other.
-use Rattle.std.proofs.Common.{◌≡◌, ℕ, suc, ◌+◌, ◌<◌, ◌≤◌, Bool, true, false, List, [], ◌∷◌, ◌++◌, append_assoc, length, get_or, drop, drop-cons, map, Result, Ok, Err, refl, sym, ap, ◌∙◌, subst, arith, codes}
+use Rattle.std.proofs.Common.{◌≡◌, ℕ, suc, ◌+◌, ◌<◌, ◌≤◌, Bool, true, false, List, [], ◌∷◌, ◌++◌, append_assoc, length, get_or, drop, drop-cons, map, Ok, Err, refl, sym, ap, ◌∙◌, subst, arith, codes}
 use Rattle.std.proofs.lemmas.List.{append-nil, drop_all}
 use Rattle.tree_types.specs.Phases.{is_succeeded}
 use Rattle.wf_manifest.specs.declared.calls.Call.{Call}
 use Rattle.scopes.specs.Substitution.{Scope, value_in}
-use Rattle.scopes.specs.Values.{HasValuesOf}
 use Rattle.scopes.proofs.ValueIn.{over_alike}
 use Rattle.meaning.specs.declared.lines.Place.{Place}
 use Rattle.meaning.specs.Lines.{numbered, Made}
-use Rattle.meaning.specs.Steps.{Caller, Member, Groups, member, member_place, members, members_at, makings, group_made, group_phase, group_tags, group_place, groups_by, before_groups, groups_from}
+use Rattle.meaning.specs.Steps.{Caller, Member, Groups, member, member_place, members, members_at, makings, group_made, group_phase, group_tags, group_place, groups_by, groups_from}
 use Rattle.tree_state.specs.declared.refused.TreeRefused.{TreeRefused}
 use Rattle.tree_state.specs.declared.refused.TreeRefused.TheVariants.{TooLarge, Memory}
-use Rattle.tree_state.specs.Counting.{count, Gives}
+use Rattle.tree_state.specs.Counting.{count}
 use Rattle.row_states.specs.Rows.{count_row}
 use Rattle.scope_laws.specs.Agreeing.{Agree, GroupsAlike}
 use Rattle.scope_laws.proofs.Bodies.{groups_agree}
 use Rattle.tree_walk.specs.declared.over.Row.{Row}
 use Rattle.tree_walk.specs.declared.over.Group.{Group}
-use Rattle.tree_walk.specs.Inside.Walking.{GivesGroup, GivesGroups, group_seen}
+use Rattle.tree_walk.specs.Walking.{GivesGroup, GivesGroups, group_seen}
 use Rattle.tree_walk.proofs.Rooms.{count_row_both, count_row_then}
 
 -- groups behind others

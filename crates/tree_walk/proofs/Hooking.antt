@@ -1,6 +1,5 @@
 -- The scope of an exit hook.
-use Rattle.std.proofs.Common.{◌≡◌, List, ℕ, [], ◌∷◌, ◌++◌, Result, Ok, Err, IfOk, refl, sym, ap, ◌∙◌}
-use Rattle.std.proofs.lemmas.List.{append-nil}
+use Rattle.std.proofs.Common.{◌≡◌, List, ℕ, [], ◌++◌, Result, Ok, Err, IfOk, refl, ap, ◌∙◌}
 use Rattle.tree_types.specs.declared.node.Node.{Node}
 use Rattle.scopes.specs.Substitution.{Scope, value_in}
 use Rattle.scopes.specs.Values.{HasValuesOf}

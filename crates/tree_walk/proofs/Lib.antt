@@ -1,9 +1,9 @@
 mod Calling
 mod Dags
-mod Groups
+pub mod Groups
 mod Hooking
 mod Index
-mod Rooms
+pub mod Rooms
 mod Sums
 mod Tasks
 mod Walkable

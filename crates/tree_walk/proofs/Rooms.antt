@@ -1,14 +1,14 @@
 -- The room that calls take.
-use Rattle.std.proofs.Common.{◌≡◌, ◌≢◌, ℕ, zero, suc, ◌+◌, ◌<◌, ◌≤◌, List, [], ◌∷◌, ◌++◌, append_assoc, length, drop, Result, Ok, Err, refl, sym, ap, ◌∙◌, subst, arith}
+use Rattle.std.proofs.Common.{◌≡◌, ℕ, zero, suc, ◌+◌, ◌≤◌, List, [], ◌∷◌, ◌++◌, append_assoc, length, drop, Result, Ok, Err, sym, ap, ◌∙◌, subst, arith}
 use Rattle.std.specs.Prelude.{IsErrAnd}
 use Rattle.std.proofs.lemmas.List.{append-nil, drop_all}
 use Rattle.base_types.specs.Limits.{most_nodes}
 use Rattle.meaning.specs.Lines.{Made, numbered}
 use Rattle.tree_state.specs.declared.refused.TreeRefused.{TreeRefused}
 use Rattle.tree_state.specs.declared.refused.TreeRefused.TheVariants.{TooLarge, Memory}
-use Rattle.tree_state.specs.Counting.{count_below, count, Takes, Gives}
+use Rattle.tree_state.specs.Counting.{count, Takes, Gives}
 use Rattle.row_states.specs.Rows.{count_row}
-use Rattle.tree_walk.specs.Inside.Walking.{GivesRow}
+use Rattle.tree_walk.specs.Walking.{GivesRow}
 
 pub count_row_then : (ms : List Made) (m : Made) → count_row (ms ++ m ∷ []) ≡ count_row ms + count m
 count_row_then [] m = omega arith

@@ -1,10 +1,10 @@
 -- The nodes of the tasks of a DAG, counted in another order.
-use Rattle.std.proofs.Common.{◌≡◌, ◌≢◌, ◌⊎◌, inl, inr, ℕ, zero, suc, ◌+◌, ◌<◌, ◌≤◌, Bool, true, false, List, [], ◌∷◌, ◌++◌, length, slice_index_or, get_or, take, refl, sym, ap, ◌∙◌, subst, arith}
+use Rattle.std.proofs.Common.{◌≡◌, ◌≢◌, ◌⊎◌, inl, inr, ℕ, zero, suc, ◌+◌, ◌<◌, ◌≤◌, Bool, true, false, List, [], ◌∷◌, length, slice_index_or, get_or, take, refl, ap, ◌∙◌, subst, arith}
 use Rattle.std.specs.List.{AllPairs, Contains}
 use Rattle.meaning.specs.declared.lines.Place.{Place}
 use Rattle.meaning.specs.Dags.{Standing, waiting, ready, exists, Standings, task_place, task_then, tasks_below}
 use Rattle.meaning.specs.Lines.{Parts}
-use Rattle.tree_state.specs.Counting.{count, count_below}
+use Rattle.tree_state.specs.Counting.{count_below}
 use Rattle.dag_board.specs.Boards.{stood}
 use Rattle.tree_walk.specs.Inside.Tasks.{stood_count, count_at}
 

@@ -1,18 +1,17 @@
 -- The tasks of a DAG, one by one.
-use Rattle.std.proofs.Common.{◌≡◌, ℕ, zero, suc, ◌+◌, ◌<◌, ◌≤◌, Bool, true, false, not, ◌||◌, List, [], ◌∷◌, ◌++◌, length, get_or, take, Option, Some, None, Result, Ok, Err, refl, sym, ap, ◌∙◌, subst, arith, codes}
-use Rattle.std.specs.Prelude.{slice_get, IsErrAnd}
+use Rattle.std.proofs.Common.{◌≡◌, ℕ, zero, suc, ◌+◌, ◌<◌, ◌≤◌, Bool, true, false, not, ◌||◌, List, [], ◌∷◌, ◌++◌, length, get_or, take, Some, Ok, Err, refl, sym, ap, ◌∙◌, subst, arith, codes}
+use Rattle.std.specs.Prelude.{slice_get}
 use Rattle.std.proofs.lemmas.List.{take_all}
 use Rattle.tree_types.specs.declared.phase.Phase.{Phase}
 use Rattle.wf_manifest.specs.declared.calls.Task.{Task}
 use Rattle.wf_manifest.specs.declared.calls.Dag.{Dag}
-use Rattle.wf_manifest.specs.declared.templates.OutputDecl.{OutputDecl}
 use Rattle.scopes.specs.Substitution.{Scope}
 use Rattle.scopes.specs.Values.{HasValuesOf}
 use Rattle.meaning.specs.declared.lines.Place.{Place}
 use Rattle.meaning.specs.Answers.{Answers}
 use Rattle.meaning.specs.Lines.{Made}
 use Rattle.meaning.specs.Steps.{Caller, covered}
-use Rattle.meaning.specs.Dags.{Standing, waiting, ready, exists, Standings, standings, rounds, standings_by, look, task_place, free_by, free, omitted, is_doomed, dag_made}
+use Rattle.meaning.specs.Dags.{Standing, waiting, ready, exists, Standings, standings, task_place, free_by, free, omitted}
 use Rattle.tree_state.specs.declared.refused.TreeRefused.{TreeRefused}
 use Rattle.tree_state.specs.declared.refused.TreeRefused.TheVariants.{TooLarge, Memory}
 use Rattle.tree_state.specs.Counting.{count, Takes, Gives}
@@ -22,7 +21,7 @@ use Rattle.dag_template.specs.declared.judging.Verdict.{Verdict}
 use Rattle.dag_template.specs.declared.judging.Verdict.TheVariants.{Waits, Holds, Denied}
 use Rattle.dag_board.specs.declared.board.Board.{Board}
 use Rattle.dag_board.specs.Boards.{IsBoard, IsTurn, stands_at, seen_by, stood}
-use Rattle.dag_board.specs.Turns.{Tells, Sees, Begins, Omits, IsReady, WaitingIsShown}
+use Rattle.dag_board.specs.Turns.{Tells, Begins, Omits, IsReady, WaitingIsShown}
 use Rattle.scope_laws.specs.Agreeing.{Agree}
 use Rattle.tree_walk.specs.Inside.Tasks.{stood_count, count_at, GivesTask, GivesBoard}
 use Rattle.tree_walk.proofs.Sums.{count_next, count_start}

@@ -14,7 +14,7 @@ use Rattle.wf_manifest.specs.declared.templates.Template.{Template}
 use Rattle.wf_manifest.specs.declared.manifest.Manifest.{Manifest}
 use Rattle.wf_manifest.specs.Valid.{calls_in, calls_of, has_step_names, steps_differ, is_short, body_is_short, retry_fits, tasks_are_there, HasNoCircle, Valid, template_named}
 use Rattle.wf_manifest.proofs.Each.{All-found}
-use Rattle.tree_walk.specs.Inside.Walkable.{IsNamed, AreNamed, IsWalkableBody, IsWalkable}
+use Rattle.tree_walk.specs.Walkable.{IsNamed, AreNamed, IsWalkableBody, IsWalkable}
 
 abbrev Named : List Call → Type 0
 Named cs = IsTrue (list_all (λ c. is_step_name c.name) cs)

@@ -1,4 +1,2 @@
 -- What speaks only of this crate's private code.
 pub mod Tasks
-pub mod Walkable
-pub mod Walking

@@ -1,5 +1,7 @@
 pub mod Inside
 pub mod Index
+pub mod Walkable
+pub mod Walking
 pub use Rattle.wf_manifest.specs.Valid
 pub use Rattle.meaning.specs.Calls
 pub use Rattle.meaning.specs.Trees

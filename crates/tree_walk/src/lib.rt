@@ -1,9 +1,11 @@
 //! What the calls of a manifest make over what is recorded of it.
 #![tactic(auto)]
 
+mod dag;
 mod over;
 mod templates;
 mod walk;
 
+pub use over::{After, Group, Listed, Row, group_over, steps_over};
 pub use templates::{Positions, find_template, positions_of};
-pub use walk::top_state;
+pub use walk::{FURTHER_DEPTHS, Walk, top_state};

@@ -7,7 +7,7 @@ ghost use Rattle.scopes.specs.Values.{HasValuesOf};
 ghost use Rattle.meaning.specs.Lines as lines;
 ghost use Rattle.meaning.specs.Calls as meant;
 ghost use Rattle.meaning.specs.Steps as steps;
-ghost use Rattle.tree_walk.specs.Inside.Walking.{GivesHalted, behind_lock as lock_made, group_seen, groups_kept, AddsHook, label_of, prefix_of};
+ghost use Rattle.tree_walk.specs.Walking.{GivesHalted, behind_lock as lock_made, group_seen, groups_kept, AddsHook, label_of, prefix_of};
 
 use base_types::{List, Memory, Text};
 use call_nodes::add_tags_of;
@@ -18,41 +18,51 @@ use recorded::Recorded;
 use row_states::{group_state, group_tags, row, steps_state};
 use scopes::{Scope, Tags};
 use std::alloc::Global;
-use tree_state::{Room, State, TreeRefused};
+use tree_state::{Room, Shared, State, TreeRefused};
 use tree_types::{Kind, LockId, Node, Phase};
 use wf_manifest::{Dag, Group as Calls, Hook, OutputDecls, Template};
 
 /// Whether a call is a step or a task, by which the prefix of its tags is told.
 #[derive(Clone, Copy, Debug)]
-pub(crate) enum Listed {
+pub enum Listed {
     Steps,
     Tasks,
 }
 
 /// What follows the node of a template: the exit hook of a call, which sees the tags of its step or task.
 #[derive(Clone, Copy)]
-pub(crate) struct After<'a> {
-    pub(crate) of: Listed,
-    pub(crate) name: &'a Text,
-    pub(crate) exit: Option<&'a Hook>,
+pub struct After<'a> {
+    pub of: Listed,
+    pub name: &'a Text,
+    pub exit: Option<&'a Hook>,
 }
 
 /// The groups of a steps template that exist, and the scope behind them.
-#[derive(Drop)]
-pub(crate) struct Row {
-    pub(crate) states: List<State>,
-    pub(crate) scope: Scope,
+pub struct Row {
+    pub states: List<Shared>,
+    pub scope: Scope,
+}
+
+// Written out, so that proofs about code that drops a row see one call.
+impl Drop for Row {
+    fn drop(self) {
+        let Row {
+            states: _,
+            scope: _,
+        } = self;
+    }
 }
 
 /// A group of steps, and the tags of its members.
 #[derive(Drop)]
-pub(crate) struct Group {
-    pub(crate) state: State,
-    pub(crate) tags: Tags,
+pub struct Group {
+    pub state: Shared,
+    pub tags: Tags,
 }
 
 impl Row {
-    pub(crate) fn new(alloc: Global, scope: &Scope) -> Result<Row, Memory>
+    /// No groups, and the scope of the template.
+    pub fn new(alloc: Global, scope: &Scope) -> Result<Row, Memory>
         ensures { IfOk result (λ row. row ≡ record { states = []; scope = scope.now }) }
     {
         Ok(Row {
@@ -62,7 +72,7 @@ impl Row {
     }
 
     /// Adds a group: what follows sees its tags.
-    pub(crate) fn add(&mut self, group: Group) -> Result<(), Memory>
+    pub fn add(&mut self, group: Group) -> Result<(), Memory>
         ensures { OnOk result (self.new ≡ record {
           states = self.old.states ++ group.state ∷ [];
           scope = group.tags ++ self.old.scope;
@@ -71,13 +81,23 @@ impl Row {
         self.scope = self.scope.with(group.tags)?;
         self.states.push(group.state)
     }
+
+    /// The groups and the scope, apart: no field can be taken out of a row.
+    pub fn into_parts(self) -> (List<Shared>, Scope)
+        ensures states { result.0 ≡ self.states }
+        ensures scope { result.1 ≡ self.scope }
+    {
+        let Row { states, scope } = self;
+        (states, scope)
+    }
 }
 
 impl Group {
-    pub(crate) fn has_succeeded(&self) -> bool
+    /// Whether the group's node Succeeded, so that the next group begins.
+    pub fn has_succeeded(&self) -> bool
         ensures { result ≡ phases.is_succeeded self.now.state.own.node.phase }
     {
-        matches!(self.state.phase(), Phase::Succeeded)
+        matches!(self.state.state().phase(), Phase::Succeeded)
     }
 }
 
@@ -166,32 +186,34 @@ pub(crate) fn with_hook(
 }
 
 /// A group over what its members made.
-pub(crate) fn group_over(place: Place, calls: &Calls, states: List<State>) -> Result<Group, Memory>
+pub fn group_over(place: Place, calls: &Calls, states: List<Shared>) -> Result<Group, Memory>
     ensures { (ms : Seq steps.Member) → map (λ m. m.0) ms ≡ calls.now → steps.makings ms ≡ states →
         IfOk result (group_seen place ms) }
 {
     let tags = group_tags(calls, &states)?;
-    let state = group_state(place, calls, states)?;
+    let state = Shared::new(group_state(place, calls, states)?)?;
     Ok(Group { state, tags })
 }
 
 /// The phase of the first group that did not succeed, else Succeeded.
-fn phase_of(states: &List<State>) -> Phase
+fn phase_of(states: &List<Shared>) -> Phase
     ensures { result ≡ steps.steps_phase states.now }
 {
     for state in states.as_slice() {
-        if !matches!(state.phase(), Phase::Succeeded) {
-            return state.phase();
+        let phase = state.state().phase();
+        if !matches!(phase, Phase::Succeeded) {
+            return phase;
         }
     }
     Phase::Succeeded
 }
 
 /// The node of a steps template over its groups.
-pub(crate) fn steps_over(place: Place, declared: &OutputDecls, groups: Row) -> Result<State, Memory>
+pub fn steps_over(place: Place, declared: &OutputDecls, groups: Row) -> Result<State, Memory>
     ensures { IfOk result (λ state. state ≡ steps.steps_by place declared.now (groups_kept groups)) }
 {
     let phase = phase_of(&groups.states);
-    let below = row(groups.states)?;
-    steps_state(place, &groups.scope, declared, phase, below)
+    let (states, scope) = groups.into_parts();
+    let below = row(states)?;
+    steps_state(place, &scope, declared, phase, below)
 }

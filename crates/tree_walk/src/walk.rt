@@ -1,34 +1,24 @@
 //! The walk over a manifest that makes what its calls make.
 
-ghost use Rattle.std.specs.Prelude.{length, take, suc, get_or, ◌≡◌, ℕ, ◌+◌, ◌++◌, ◌*◌, ◌<◌, ◌≤◌, All, IsTrue, IfOk, IfSome, Ok, Some, option_copied};
+ghost use Rattle.std.specs.Prelude.{◌≡◌, ◌+◌, ◌*◌, ◌<◌, ◌≤◌, All, IsTrue, IfOk, IfSome, Ok, Some, option_copied};
 ghost use Rattle.base_types.specs.Limits.{most_nodes};
 ghost use Rattle.fanout.specs.Items.{is_whole};
 ghost use Rattle.meaning.specs.Calls as meant;
 ghost use Rattle.meaning.specs.Steps as steps;
-ghost use Rattle.meaning.specs.Dags as dags;
 ghost use Rattle.meaning.specs.Trees as trees;
 ghost use Rattle.tree_state.specs.Counting.{Gives, count};
-ghost use Rattle.tree_walk.specs.Inside.Walkable.{IsNamed, AreNamed, IsWalkable, IsWalkableDag};
+ghost use Rattle.tree_walk.specs.Walkable.{IsNamed, AreNamed, IsWalkable};
 ghost use Rattle.tree_walk.specs.Index.{IsReady};
-ghost use Rattle.dag_plan.specs.Plans.{IsPlan};
-ghost use Rattle.dag_board.specs.Boards.{IsBoard, IsTurn, stands_at, seen_by};
-ghost use Rattle.tree_walk.specs.Inside.Tasks.{GivesTask, GivesBoard, stood_count};
-ghost use Rattle.tree_walk.specs.Inside.Walking.{GivesRow, GivesGroups, GivesGroup, hook_depth, label_of, prefix_of};
+ghost use Rattle.tree_walk.specs.Walking.{GivesRow, GivesGroups, GivesGroup, hook_depth, label_of, prefix_of};
 
 use crate::over::{
-    After, Group, Listed, Row, begins, behind_lock, group_over, halted, hook_scope, steps_over,
-    with_hook,
+    After, Group, Listed, Row, behind_lock, group_over, halted, hook_scope, steps_over, with_hook,
 };
 use crate::templates::{Positions, find_template};
 use base_types::limits::MOST_DEPTH;
 use base_types::{List, Memory, Text, TryCopy};
-use call_nodes::{
-    copy_place, group_place, hook_place, item_place, kind_of, member_place, task_place,
-};
+use call_nodes::{copy_place, group_place, hook_place, item_place, kind_of, member_place};
 use call_texts::{goes_on, item_scope, loop_items, said, template_scope};
-use dag_board::Board;
-use dag_plan::DagPlan;
-use dag_template::Verdict;
 use fanout::Items;
 use hooks_exit::hook_runs;
 use leaf_states::{hit, lone, looking, pod, retried, saving, suspended, waiting};
@@ -37,22 +27,22 @@ use recorded::Recorded;
 use row_states::loop_state;
 use scopes::Scope;
 use std::alloc::Global;
-use tree_state::{Room, State, TreeRefused};
+use tree_state::{Room, Shared, State, TreeRefused};
 use tree_types::{Kind, Note, Phase};
 use wf_manifest::{
-    Arguments, Body, Call, Dag, Group as Calls, Groups, Hook, Json, Manifest, Memoize, OutputDecls,
-    Task, Template,
+    Arguments, Body, Call, Group as Calls, Groups, Hook, Json, Manifest, Memoize, OutputDecls,
+    Template,
 };
 
-// How many depths may be called below the entrypoint and the exit handler, which have depth 1.
-const FURTHER_DEPTHS: u32 = MOST_DEPTH - 1;
+/// How many depths may be called below the entrypoint and the exit handler, which have depth 1.
+pub const FURTHER_DEPTHS: u32 = MOST_DEPTH - 1;
 
-// A manifest, where its templates stand, the scope of the workflow's tags, and what is recorded of it.
-struct Walk<'a, R> {
-    manifest: &'a Manifest,
-    positions: &'a Positions,
-    globals: &'a Scope,
-    recorded: &'a R,
+/// A manifest, where its templates stand, the scope of the workflow's tags, and what is recorded of it.
+pub struct Walk<'a, R> {
+    pub manifest: &'a Manifest,
+    pub positions: &'a Positions,
+    pub globals: &'a Scope,
+    pub recorded: &'a R,
 }
 
 impl<R> Drop for Walk<'_, R> {
@@ -98,7 +88,8 @@ pub fn top_state<R: Recorded>(
 }
 
 impl<R: Recorded> Walk<'_, R> {
-    fn alloc(&self) -> Global {
+    /// The allocator that the manifest keeps.
+    pub fn alloc(&self) -> Global {
         self.manifest.name.allocator()
     }
 
@@ -113,8 +104,8 @@ impl<R: Recorded> Walk<'_, R> {
         }
     }
 
-    // The template of a name, which may be walked over.
-    fn template_of(&self, name: &Text) -> Option<&Template>
+    /// The template of a name, which may be walked over.
+    pub fn template_of(&self, name: &Text) -> Option<&Template>
         requires ready { IsReady self.now.manifest.now self.now.positions.now }
         ensures found { option_copied result ≡ meant.template_named self.now.manifest.now name.now }
         ensures walkable { IfSome result (λ template. IsWalkable template.now) }
@@ -122,8 +113,8 @@ impl<R: Recorded> Walk<'_, R> {
         find_template(self.manifest, self.positions, name)
     }
 
-    // The node of a looped call, over what its items made.
-    fn loop_of(&self, place: Place, call: &Call, states: List<State>) -> Result<State, Memory>
+    /// The node of a looped call, over what its items made.
+    pub fn loop_of(&self, place: Place, call: &Call, states: List<Shared>) -> Result<State, Memory>
         requires ready { IsReady self.now.manifest.now self.now.positions.now }
         ensures { IfOk result (λ state. state ≡ meant.loop_made place
             (meant.declared_by (meant.template_named self.now.manifest.now call.now.template)) states) }
@@ -134,9 +125,9 @@ impl<R: Recorded> Walk<'_, R> {
         }
     }
 
-    // A call with so many depths left, its own among them.
+    /// A call with so many depths left, its own among them.
     #[cycle(walk)]
-    fn call(
+    pub fn call(
         &self,
         of: Listed,
         place: Place,
@@ -229,7 +220,7 @@ impl<R: Recorded> Walk<'_, R> {
         items: &Items,
         left: u32,
         room: &mut Room,
-    ) -> Result<List<State>, TreeRefused>
+    ) -> Result<List<Shared>, TreeRefused>
         requires ready { IsReady self.now.manifest.now self.now.positions.now }
         requires whole { All (λ item. IsTrue (is_whole item)) items.now }
         requires few { room.now ≤ most_nodes }
@@ -244,14 +235,15 @@ impl<R: Recorded> Walk<'_, R> {
         let mut i: u32 = 0;
         for item in items.as_slice() {
             let state = self.item(of, place, scope, call, i, item, left, room)?;
-            states.push(state)?;
+            states.push(Shared::new(state)?)?;
             i += 1;
         }
         Ok(states)
     }
 
+    /// One item of a looped call.
     #[cycle(walk)]
-    fn item(
+    pub fn item(
         &self,
         of: Listed,
         place: &Place,
@@ -276,9 +268,9 @@ impl<R: Recorded> Walk<'_, R> {
         self.one(of, at, &inner, call, left, room)
     }
 
-    // One item of a call, or a call without a loop.
+    /// One item of a call, or a call without a loop.
     #[cycle(walk)]
-    fn one(
+    pub fn one(
         &self,
         of: Listed,
         place: Place,
@@ -318,7 +310,7 @@ impl<R: Recorded> Walk<'_, R> {
 
     /// A call of a template with arguments, and what follows the template's node.
     #[cycle(walk)]
-    fn called(
+    pub fn called(
         &self,
         place: Place,
         scope: &Scope,
@@ -375,9 +367,9 @@ impl<R: Recorded> Walk<'_, R> {
         self.hook(state, &at, scope, hook, after, left, room)
     }
 
-    // The exit hook behind a node that is made.
+    /// The exit hook behind a node that is made.
     #[cycle(walk)]
-    fn hook(
+    pub fn hook(
         &self,
         state: State,
         place: &Place,
@@ -416,9 +408,9 @@ impl<R: Recorded> Walk<'_, R> {
         with_hook(state, made)
     }
 
-    // The template's node: first its lock, then its memoized answer, then its body.
+    /// The template's node: first its lock, then its memoized answer, then its body.
     #[cycle(walk)]
-    fn template(
+    pub fn template(
         &self,
         place: Place,
         scope: &Scope,
@@ -610,8 +602,9 @@ impl<R: Recorded> Walk<'_, R> {
         Ok(row)
     }
 
+    /// A group of steps.
     #[cycle(walk)]
-    fn group(
+    pub fn group(
         &self,
         place: Place,
         scope: &Scope,
@@ -641,7 +634,7 @@ impl<R: Recorded> Walk<'_, R> {
         calls: &Calls,
         left: u32,
         room: &mut Room,
-    ) -> Result<List<State>, TreeRefused>
+    ) -> Result<List<Shared>, TreeRefused>
         requires ready { IsReady self.now.manifest.now self.now.positions.now }
         requires named { All IsNamed calls.now }
         requires few { room.now ≤ most_nodes }
@@ -657,149 +650,9 @@ impl<R: Recorded> Walk<'_, R> {
         for call in calls.as_slice() {
             let at = member_place(group, j, call)?;
             let state = self.call(Listed::Steps, at, scope, call, left, room)?;
-            states.push(state)?;
+            states.push(Shared::new(state)?)?;
             j += 1;
         }
         Ok(states)
-    }
-
-    #[cycle(walk)]
-    fn dag(
-        &self,
-        place: Place,
-        scope: &Scope,
-        declared: &OutputDecls,
-        dag: &Dag,
-        left: u32,
-        room: &mut Room,
-    ) -> Result<State, TreeRefused>
-        requires ready { IsReady self.now.manifest.now self.now.positions.now }
-        requires walkable { IsWalkableDag dag.now }
-        requires shallow { place.depth + 5 * left + 8 < 1000 }
-        ensures { let m = self.now.manifest.now in
-            let A = R.answers self.now.recorded.now in
-            let called = meant.calls m A self.now.globals.now left in
-            Gives room.old room.new result
-            (dags.dag_made A called place scope.now declared.now dag.now) }
-    {
-        room.take()?;
-        let plan = DagPlan::new(self.alloc(), dag)?;
-        let board = self.tasks(&place, scope, dag, &plan, left, room)?;
-        Ok(board.made(self.alloc(), dag, &plan, &place, scope, declared)?)
-    }
-
-    // A board of all tasks, gone through in the order of their plan.
-    #[cycle(walk)]
-    fn tasks(
-        &self,
-        place: &Place,
-        scope: &Scope,
-        dag: &Dag,
-        plan: &DagPlan,
-        left: u32,
-        room: &mut Room,
-    ) -> Result<Board, TreeRefused>
-        requires ready { IsReady self.now.manifest.now self.now.positions.now }
-        requires walkable { IsWalkableDag dag.now }
-        requires plan { IsPlan dag.now plan.now }
-        requires shallow { place.now.depth + 5 * left + 8 < 1000 }
-        ensures { let m = self.now.manifest.now in
-            let A = R.answers self.now.recorded.now in
-            let called = meant.calls m A self.now.globals.now left in
-            GivesBoard A called place.now scope.now dag.now plan.now.order room.old room.new result }
-    {
-        let mut board = Board::new(self.alloc(), dag)?;
-        for k in 0..plan.order.len() {
-            self.task(&mut board, place, scope, dag, plan, k, left, room)?;
-        }
-        Ok(board)
-    }
-
-    // The task whose turn is next.
-    #[cycle(walk)]
-    fn task(
-        &self,
-        board: &mut Board,
-        place: &Place,
-        scope: &Scope,
-        dag: &Dag,
-        plan: &DagPlan,
-        k: usize,
-        left: u32,
-        room: &mut Room,
-    ) -> Result<(), TreeRefused>
-        requires ready { IsReady self.now.manifest.now self.now.positions.now }
-        requires walkable { IsWalkableDag dag.now }
-        requires plan { IsPlan dag.now plan.now }
-        requires low { k < length plan.now.order }
-        requires board { let m = self.now.manifest.now in
-            let A = R.answers self.now.recorded.now in
-            let called = meant.calls m A self.now.globals.now left in
-            IsBoard A called place.now scope.now dag.now (take k plan.now.order) board.now }
-        requires shallow { place.now.depth + 5 * left + 8 < 1000 }
-        ensures { let m = self.now.manifest.now in
-            let A = R.answers self.now.recorded.now in
-            let called = meant.calls m A self.now.globals.now left in
-            GivesTask room.old room.new result
-            (IsBoard A called place.now scope.now dag.now (take (suc k) plan.now.order) board.new)
-            (stood_count (stands_at A called place.now scope.now dag.now (get_or plan.now.order k 0))) }
-    {
-        let i = *plan.order.get(k);
-        let task = dag.tasks.get(i);
-        match board.verdict(self.alloc(), dag, plan, i)? {
-            Verdict::Waits => Ok(()),
-            Verdict::Denied(branch) => {
-                room.take()?;
-                Ok(board.omit(self.alloc(), dag, plan, i, place, branch)?)
-            }
-            Verdict::Holds => self.freed(board, place, scope, dag, plan, k, i, task, left, room),
-        }
-    }
-
-    // The task whose turn is next, and which nothing holds back.
-    #[cycle(walk)]
-    fn freed(
-        &self,
-        board: &mut Board,
-        place: &Place,
-        scope: &Scope,
-        dag: &Dag,
-        plan: &DagPlan,
-        k: usize,
-        i: usize,
-        task: &Task,
-        left: u32,
-        room: &mut Room,
-    ) -> Result<(), TreeRefused>
-        requires ready { IsReady self.now.manifest.now self.now.positions.now }
-        requires walkable { IsWalkableDag dag.now }
-        requires plan { IsPlan dag.now plan.now }
-        requires turn { IsTurn dag.now plan.now k i task.now }
-        requires board { let m = self.now.manifest.now in
-            let A = R.answers self.now.recorded.now in
-            let called = meant.calls m A self.now.globals.now left in
-            IsBoard A called place.now scope.now dag.now (take k plan.now.order) board.now }
-        requires free { let m = self.now.manifest.now in
-            let A = R.answers self.now.recorded.now in
-            let called = meant.calls m A self.now.globals.now left in
-            stands_at A called place.now scope.now dag.now i
-            ≡ dags.free A called place.now scope.now dag.now (seen_by A called place.now scope.now dag.now task.now) i task.now }
-        requires place { i < length dag.now.tasks }
-        requires shallow { place.now.depth + 5 * left + 8 < 1000 }
-        ensures { let m = self.now.manifest.now in
-            let A = R.answers self.now.recorded.now in
-            let called = meant.calls m A self.now.globals.now left in
-            GivesTask room.old room.new result
-            (IsBoard A called place.now scope.now dag.now (take (suc k) plan.now.order) board.new)
-            (stood_count (stands_at A called place.now scope.now dag.now i)) }
-    {
-        let at = task_place(place, i as u32, task)?;
-        if !begins(self.recorded, dag, &at) {
-            board.set_ready(self.alloc(), dag, plan, i);
-            return Ok(());
-        }
-        let inner = board.scope_before(self.alloc(), dag, plan, i, scope)?;
-        let state = self.call(Listed::Tasks, at, &inner, &task.call, left, room)?;
-        Ok(board.begin(self.alloc(), dag, plan, i, state)?)
     }
 }

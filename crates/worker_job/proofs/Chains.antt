@@ -1,7 +1,7 @@
 -- The first step that applies, and what gives the steps their answers.
-use Rattle.std.proofs.Common.{◌≡◌, Bool, true, false, ◌&&◌, ◌||◌, cond, List, [], ◌∷◌, ◌++◌, map, reverse, filter_map, true≢false, refl, sym, ◌∙◌, ap, Bor}
-use Rattle.std.specs.Prelude.{ℕ, bytes_eq, Option, Some, None, is_some, option_map, option_and_then, MatchOption}
-use Rattle.std.specs.List.{list_any, cons_option}
+use Rattle.std.proofs.Common.{◌≡◌, Bool, true, false, ◌&&◌, ◌||◌, cond, List, [], ◌∷◌, true≢false, refl, sym, ◌∙◌, ap, Bor}
+use Rattle.std.specs.Prelude.{ℕ, bytes_eq, Option, Some, None, is_some, option_map, MatchOption}
+use Rattle.std.specs.List.{list_any}
 use Rattle.tree_types.specs.declared.path.Path.{Path}
 use Rattle.tree_types.specs.declared.phase.Phase.{Phase}
 use Rattle.tree_types.specs.declared.phase.Phase.TheVariants as phase
@@ -15,8 +15,8 @@ use Rattle.law.specs.Documents.{Text, Command, Resume, Resubmit, Document}
 use Rattle.law.specs.Contents.{Flow, Content, flow_in}
 use Rattle.law.specs.Justified.{tree_of}
 use Rattle.object_store.specs.declared.snapshot.Snapshot.{Snapshot}
-use Rattle.law.specs.Due.{Matter, record_fact}
-use Rattle.next_step.specs.Views.{Views, head, first_given}
+use Rattle.law.specs.Due.{record_fact}
+use Rattle.next_step.specs.Views.{Views}
 use Rattle.next_step.specs.Next as next
 use Rattle.next_step.specs.Next.{Step, first_step, worker_next}
 use Rattle.next_step.specs.Replies.{seen}

@@ -5,3 +5,4 @@ mod Looking
 mod Walks
 mod Changed
 mod OtherKinds
+mod Marked

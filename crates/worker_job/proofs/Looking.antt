@@ -16,7 +16,7 @@ told_by :
 told_by true l o p e = refl
 told_by false l o p e = e
 
-look_mapped :
+pub look_mapped :
     (name : List ℕ) (ls : List (Look SeenPod)) →
     option_map look_told (find (is_named name) ls) ≡ find (is_look name) (map look_told ls)
 look_mapped name [] = refl

@@ -1,6 +1,5 @@
 -- What was read is of another kind than its key's: the job ends.
-use Rattle.std.proofs.Common.{◌≡◌, ℕ, Bool, true, false, refl, sym, ◌∙◌, ap, subst, Option, Some, None, is_some, option_map, true≢false}
-use Rattle.std.specs.Option.{option_copied}
+use Rattle.std.proofs.Common.{◌≡◌, ℕ, false, refl, sym, subst, Option, Some, None, is_some, true≢false}
 use Rattle.tree_types.specs.declared.entry.Key.{Key}
 use Rattle.tree_types.specs.declared.entry.Key.TheVariants.{Locks, Caches}
 use Rattle.law.specs.Contents.{Content, OfWorkflow, OfPod, OfLocks, OfCaches}

@@ -1,5 +1,5 @@
 -- What a workflow's tree is asked for is the first that is given.
-use Rattle.std.proofs.Common.{◌≡◌, ℕ, Bool, true, false, ◌&&◌, true≢false, refl, sym, ◌∙◌, ap, Bor, List, Option, Some, None, option_map, option_and_then}
+use Rattle.std.proofs.Common.{◌≡◌, ℕ, true, ◌&&◌, true≢false, refl, sym, ◌∙◌, ap, Bor, List, Option, Some, None, option_map, option_and_then}
 use Rattle.std.specs.Prelude.{is_some, option_copied}
 use Rattle.std.specs.List.{find, list_any}
 use Rattle.tree_types.specs.declared.path.Path.{Path}

@@ -1,4 +1,5 @@
 -- What speaks only of private code.
+pub mod Marks
 use Rattle.std.specs.Prelude.{◌≡◌, ℕ, true, List, map, reverse, Option, Some, None, is_some, option_map, option_and_then}
 use Rattle.tree_types.specs.declared.entry.Key.{Key}
 use Rattle.tree_types.specs.declared.entry.Key.TheVariants.{Workflow, Locks, Caches}
@@ -13,6 +14,7 @@ use Rattle.next_step.specs.Replies.{seen}
 use Rattle.worker_job.specs.declared.job.SeenPod.{SeenPod}
 use Rattle.worker_job.specs.declared.job.Job.TheInside.{Inside}
 use Rattle.worker_job.specs.Jobs.{OneJob}
+use Rattle.worker_job.specs.Inside.Marks.{MarksFit}
 
 -- ---- what was read, as views
 
@@ -48,6 +50,13 @@ views_of a = record {
 abbrev pub job_of : Inside → OneJob
 job_of a = record { workflow = a.workflow; views = views_of a }
 
+-- the looks at pods, and the workflow that was read
+abbrev pub looks_of : Inside → List PodLook
+looks_of a = map look_told a.looks
+
+abbrev pub flow_of : Inside → Option Flow
+flow_of a = option_and_then (λ s. flow_in (Some s.content)) a.flow
+
 -- a snapshot is of this key, and of its kind
 abbrev pub IsOf : {C : Type 0} → Key → (Snapshot Content → Option (Seen C)) → Option (Snapshot Content) → Type 0
 IsOf k see None = Unit {0}
@@ -57,3 +66,8 @@ pub record IsKept (w : Text) (flow book saves : Option (Snapshot Content)) : Typ
   pub flow_of : IsOf (Workflow w) flow_seen flow
   pub book_of : IsOf Locks book_seen book
   pub saves_of : IsOf Caches saves_seen saves
+
+-- and the marks are right
+pub record IsHeld (a : Inside) : Type 0 where
+  pub kept : IsKept a.workflow a.flow a.book a.saves
+  pub marked : MarksFit (looks_of a) (flow_of a) a.marks

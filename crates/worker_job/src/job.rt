@@ -1,6 +1,6 @@
 //! What was read and noted in a job.
 
-ghost use Rattle.std.specs.Prelude.{◌≡◌, ◌∷◌, None, Some, true, not, filter, bytes_eq, is_some, IfOk, OnOk, MatchOption, option_copied, option_map};
+ghost use Rattle.std.specs.Prelude.{◌≡◌, ◌∷◌, None, Some, true, not, map, filter, bytes_eq, is_some, IfOk, OnOk, MatchOption, option_copied, option_map, option_and_then};
 ghost use Rattle.std.specs.List.{list_any};
 ghost use Rattle.tree_types.specs.declared.entry.Key.TheVariants as of_key;
 ghost use Rattle.law.specs.Contents.{flow_in};
@@ -11,8 +11,10 @@ ghost use Rattle.next_step.specs.Next.{worker_next, get, act};
 ghost use Rattle.next_step.specs.Replies.{after, taken, with_look, seen, found, accepted, no_object, exists};
 ghost use Rattle.worker_job.specs.Jobs.{Leaves, IsRead, ShowsFlow, ShowsBook, ShowsSaves};
 ghost use Rattle.worker_job.specs.Told.{matter_told, next_told, key_of};
+ghost use Rattle.worker_job.specs.Inside.Marks.{MarksFit};
 ghost use Rattle.worker_job.specs.Inside.{look_told, pod_told, kept_saves, flow_seen, book_seen, saves_seen};
 
+use crate::marks::{Marks, Pods};
 use crate::matter::{Matter, Next};
 use crate::reading::Reading;
 use base_types::{List, Memory, Names, Text, TryCopy};
@@ -42,6 +44,7 @@ pub struct Job {
     book: Option<Snapshot<WfContent>>,
     saves: Option<Snapshot<WfContent>>,
     looks: Looks<SeenPod>,
+    marks: Marks,
     // The names of the resubmissions that were tried, the last one last.
     tried: Names,
 }
@@ -55,6 +58,7 @@ impl Drop for Job {
             book: _,
             saves: _,
             looks: _,
+            marks: _,
             tried: _,
         } = self;
     }
@@ -68,11 +72,11 @@ impl Model for Job {
 
     ghost coded = { job_code };
 
-    ghost use Rattle.worker_job.specs.Inside.{job_of, IsKept};
+    ghost use Rattle.worker_job.specs.Inside.{job_of, IsHeld};
 
     ghost view = { job_of };
 
-    ghost invariant = { λ j. IsKept j.workflow j.flow j.book j.saves };
+    ghost invariant = { IsHeld };
 }
 
 impl Job {
@@ -86,6 +90,7 @@ impl Job {
             book: None,
             saves: None,
             looks: Looks::new(alloc),
+            marks: Marks::none(),
             tried: List::new(alloc),
         }
     }
@@ -114,6 +119,7 @@ impl Job {
                     object,
                     version: snapshot.version,
                     tick: snapshot.tick,
+                    marks: self.marks,
                 };
                 reading.next()
             }
@@ -171,6 +177,13 @@ impl Job {
                 Some(cache) => Some((cache, snapshot.tick)),
             },
         }
+    }
+
+    // The looks at pods.
+    pub(crate) fn looks(&self) -> &Looks<SeenPod>
+        ensures { map look_told result.now ≡ self.now.views.pods }
+    {
+        &self.looks
     }
 
     // The last look at the pod of a name.
@@ -349,6 +362,7 @@ impl Job {
     {
         self.flow = Some(snapshot);
         self.saves = None;
+        self.marks = Marks::none();
     }
 
     fn set_book(&mut self, snapshot: Snapshot<WfContent>)
@@ -375,7 +389,10 @@ impl Job {
             (self.new.views ≡ with_look self.old.views name (option_map pod_told found)) }
         ensures workflow { self.new.workflow ≡ self.old.workflow }
     {
-        self.looks.add(name, found)
+        let marks = mem::replace(&mut self.marks, Marks::none()).after(&found);
+        self.looks.add(name, found)?;
+        self.marks = marks_behind(&self.flow, &self.looks, marks);
+        Ok(())
     }
 
     // The looks at the pod of a name are dropped.
@@ -385,6 +402,7 @@ impl Job {
         }) }
         ensures workflow { self.new.workflow ≡ self.old.workflow }
     {
+        self.marks = Marks::none();
         let none = Looks::new(self.workflow.allocator());
         let looks = mem::replace(&mut self.looks, none);
         self.looks = looks.without(name)?;
@@ -399,6 +417,20 @@ impl Job {
     {
         let name = name.copy()?;
         self.tried.push(name)
+    }
+}
+
+// The marks moved on, where a workflow was read.
+fn marks_behind(flow: &Option<Snapshot<WfContent>>, looks: &Looks<SeenPod>, marks: Marks) -> Marks
+    requires { MarksFit (map look_told looks.now) (option_and_then (λ s. flow_in (Some s.content)) flow.now) marks }
+    ensures { MarksFit (map look_told looks.now) (option_and_then (λ s. flow_in (Some s.content)) flow.now) result }
+{
+    let Some(snapshot) = flow else {
+        return marks;
+    };
+    match snapshot.content.workflow() {
+        None => marks,
+        Some(object) => Pods { looks, object }.advanced(marks),
     }
 }
 

@@ -2,6 +2,7 @@
 #![tactic(auto)]
 
 mod job;
+mod marks;
 mod matter;
 mod queries;
 mod reading;

@@ -9,6 +9,7 @@ ghost use Rattle.law.specs.Justified as justified;
 ghost use Rattle.law.specs.Due.{record_fact, file, create, save, release};
 ghost use Rattle.next_step.specs.Views.{first_given};
 ghost use Rattle.next_step.specs.Next.{get};
+ghost use Rattle.worker_job.specs.Inside.Marks.{IsMarked};
 ghost use Rattle.worker_job.specs.Readings as reads;
 
 use crate::reading::Reading;
@@ -16,34 +17,6 @@ use base_types::Text;
 use memo_cache::Cache;
 use tree_incr::{NodeTest, WantKind, WantTest};
 use tree_types::{LockId, Node, Outcome, Outputs, Path, Want};
-
-// A pod that was not looked at.
-#[derive(Clone, Copy)]
-struct Unlooked<'a> {
-    reading: Reading<'a>,
-}
-
-impl<'a> WantTest for Unlooked<'a> {
-    ghost accepts = { λ test want. is_some (reads.reading test.reading want) };
-
-    fn accepts(&self, want: &Want) -> bool {
-        self.reading.unlooked(want).is_some()
-    }
-}
-
-// A pod that finished.
-#[derive(Clone, Copy)]
-struct Finished<'a> {
-    reading: Reading<'a>,
-}
-
-impl<'a> WantTest for Finished<'a> {
-    ghost accepts = { λ test want. is_some (reads.settling test.reading want) };
-
-    fn accepts(&self, want: &Want) -> bool {
-        self.reading.finished(want).is_some()
-    }
-}
 
 // A lock that the book shows as held.
 #[derive(Clone, Copy)]
@@ -84,20 +57,6 @@ impl<'a> WantTest for Reached<'a> {
 
     fn accepts(&self, want: &Want) -> bool {
         self.reading.reached(want).is_some()
-    }
-}
-
-// A pod that was noted as absent.
-#[derive(Clone, Copy)]
-struct Noted<'a> {
-    reading: Reading<'a>,
-}
-
-impl<'a> WantTest for Noted<'a> {
-    ghost accepts = { λ test want. is_some (reads.creating test.reading want) };
-
-    fn accepts(&self, want: &Want) -> bool {
-        self.reading.noted(want).is_some()
     }
 }
 
@@ -147,25 +106,25 @@ impl<'a> NodeTest for Kept<'a> {
 impl<'a> Reading<'a> {
     // The name of the first pod that was not looked at.
     pub(crate) fn first_unlooked(&self) -> Option<&Text>
+        requires marked { IsMarked self.now.job.now.views.pods self.now.object.now self.now.marks }
         ensures { option_map (λ n. get (of_key.Pod (reads.workflow self.now) n.now)) result
             ≡ reads.asked self.now (reads.reading self.now) }
     {
-        let test = Unlooked { reading: *self };
-        match self.object.state().find_want(WantKind::Pod, &test) {
+        match self.pods().find_unread(self.marks.read) {
             None => None,
-            Some(want) => self.unlooked(want),
+            Some((_, want)) => self.unlooked(want),
         }
     }
 
     // The first pod that finished, and its outcome.
     pub(crate) fn first_finished(&self) -> Option<(&Path, &Outcome)>
+        requires marked { IsMarked self.now.job.now.views.pods self.now.object.now self.now.marks }
         ensures { option_map (λ f. record_fact (fact.Settled f.0.now f.1.now)) result
             ≡ reads.asked self.now (reads.settling self.now) }
     {
-        let test = Finished { reading: *self };
-        match self.object.state().find_want(WantKind::Pod, &test) {
+        match self.pods().find_ended(self.marks.settled) {
             None => None,
-            Some(want) => self.finished(want),
+            Some((_, want)) => self.finished(want),
         }
     }
 
@@ -209,13 +168,13 @@ impl<'a> Reading<'a> {
 
     // The first pod that was noted as absent.
     pub(crate) fn first_noted(&self) -> Option<(&Path, &Text)>
+        requires marked { IsMarked self.now.job.now.views.pods self.now.object.now self.now.marks }
         ensures { option_map (λ n. create n.0.now n.1.now) result
             ≡ reads.asked self.now (reads.creating self.now) }
     {
-        let test = Noted { reading: *self };
-        match self.object.state().find_want(WantKind::Pod, &test) {
+        match self.pods().find_absent(self.marks.created) {
             None => None,
-            Some(want) => self.noted(want),
+            Some((_, want)) => self.noted(want),
         }
     }
 

@@ -11,10 +11,12 @@ ghost use Rattle.wf_object.specs.Documents.{command_of};
 ghost use Rattle.next_step.specs.Views.{first_given};
 ghost use Rattle.next_step.specs.Next as next;
 ghost use Rattle.next_step.specs.Next.{get};
+ghost use Rattle.worker_job.specs.Inside.{look_told};
 ghost use Rattle.worker_job.specs.Told.{resubmission_told};
 ghost use Rattle.worker_job.specs.Readings as reads;
 
 use crate::job::Job;
+use crate::marks::{Marks, Pods};
 use crate::matter::Resubmission;
 use base_types::{Memory, Text, TryCopy};
 use books::LockState;
@@ -37,6 +39,7 @@ pub(crate) struct Reading<'a> {
     pub(crate) object: &'a WfObject,
     pub(crate) version: u64,
     pub(crate) tick: u64,
+    pub(crate) marks: Marks,
 }
 
 // Whether the manifest or one of its templates has a lock.
@@ -78,6 +81,17 @@ impl<'a> Reading<'a> {
             own: path.sels.is_empty(),
             name: name.copy()?,
         })
+    }
+
+    // The pods that are asked for, and the looks at them.
+    pub(crate) fn pods(&self) -> Pods<'a>
+        ensures looks { map look_told result.looks.now ≡ self.now.job.now.views.pods }
+        ensures object { result.object.now ≡ self.now.object.now }
+    {
+        Pods {
+            looks: self.job.looks(),
+            object: self.object,
+        }
     }
 
     // The name of a path's node.

@@ -6,6 +6,7 @@ ghost use Rattle.law.specs.Due.{record_fact};
 ghost use Rattle.next_step.specs.Next as next;
 ghost use Rattle.next_step.specs.Next.{act};
 ghost use Rattle.worker_job.specs.Told.{next_told};
+ghost use Rattle.worker_job.specs.Inside.Marks.{IsMarked};
 ghost use Rattle.worker_job.specs.Readings as reads;
 ghost use Rattle.worker_job.specs.Readings.{step_told};
 
@@ -35,6 +36,7 @@ fn copied(outputs: Option<&Outputs>) -> Result<Option<Outputs>, Memory>
 impl<'a> Reading<'a> {
     // What a worker does next: the first of the steps that applies.
     pub(crate) fn next(&self) -> Result<Next, Memory>
+        requires marked { IsMarked self.now.job.now.views.pods self.now.object.now self.now.marks }
         ensures { IfOk result (λ n. next_told n ≡ next.first_step (reads.steps self.now)) }
     {
         if let Some(next) = self.read_book() {
@@ -51,6 +53,7 @@ impl<'a> Reading<'a> {
 
     // The same, where the steps before do not apply.
     fn next_answer(&self) -> Result<Next, Memory>
+        requires marked { IsMarked self.now.job.now.views.pods self.now.object.now self.now.marks }
         ensures { IfOk result (λ n. next_told n ≡ next.first_step (reads.answering_steps self.now)) }
     {
         if let Some(next) = self.settle()? {
@@ -66,6 +69,7 @@ impl<'a> Reading<'a> {
     }
 
     fn next_waiting(&self) -> Result<Next, Memory>
+        requires marked { IsMarked self.now.job.now.views.pods self.now.object.now self.now.marks }
         ensures { IfOk result (λ n. next_told n ≡ next.first_step (reads.waiting_steps self.now)) }
     {
         if let Some(next) = self.look_up()? {
@@ -81,6 +85,7 @@ impl<'a> Reading<'a> {
     }
 
     fn next_change(&self) -> Result<Next, Memory>
+        requires marked { IsMarked self.now.job.now.views.pods self.now.object.now self.now.marks }
         ensures { IfOk result (λ n. next_told n ≡ next.first_step (reads.changing_steps self.now)) }
     {
         if let Some(next) = self.resume()? {
@@ -120,6 +125,7 @@ impl<'a> Reading<'a> {
     }
 
     fn read_pod(&self) -> Result<Option<Next>, Memory>
+        requires marked { IsMarked self.now.job.now.views.pods self.now.object.now self.now.marks }
         ensures { IfOk result (λ step. step_told step ≡ reads.read_pod self.now) }
     {
         match self.first_unlooked() {
@@ -144,6 +150,7 @@ impl<'a> Reading<'a> {
     }
 
     fn settle(&self) -> Result<Option<Next>, Memory>
+        requires marked { IsMarked self.now.job.now.views.pods self.now.object.now self.now.marks }
         ensures { IfOk result (λ step. step_told step ≡ reads.settle self.now) }
     {
         match self.first_finished() {
@@ -242,6 +249,7 @@ impl<'a> Reading<'a> {
     // ---- changes of other objects
 
     fn create_one(&self) -> Result<Option<Next>, Memory>
+        requires marked { IsMarked self.now.job.now.views.pods self.now.object.now self.now.marks }
         ensures { IfOk result (λ step. step_told step ≡ reads.create_one self.now) }
     {
         match self.first_noted() {

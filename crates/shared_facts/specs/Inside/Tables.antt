@@ -3,7 +3,8 @@ use Rattle.std.specs.Prelude.{◌≡◌, ℕ, ◌<◌, ◌==◌, List, Bool, Som
 use Rattle.std.specs.List.{filter}
 use Rattle.tree_types.specs.declared.fact.Fact.{Fact}
 use Rattle.shared_facts.specs.Inside.Kinds.{sels_of}
-use Rattle.shared_facts.specs.Inside.Keys.{buckets, key_of}
+use Rattle.buckets.specs.Buckets.{buckets}
+use Rattle.shared_facts.specs.Inside.Keys.{key_of}
 
 -- the path of the fact belongs to this bucket
 abbrev pub belongs : ℕ → Fact → Bool

@@ -8,7 +8,7 @@ use Rattle.next_step.specs.Hands.{Given, for_flow, for_pod}
 use Rattle.next_step.specs.Ticks.{pod_end, timers}
 use Rattle.next_step.specs.Rounds.{submitted_by, created_by}
 use Rattle.sim_schedule.specs.declared.roster.Roster.{Roster}
-use Rattle.sim_schedule.specs.Jobs.{given}
+use Rattle.sim_schedule.specs.Inside.Jobs.{given}
 
 -- they are those of a round that begins with this history
 pub record IsOf (h : Story) (r : Roster) : Type 0 where

@@ -1,25 +1,35 @@
--- The requests that rows hold, and places in them.
-use Rattle.std.specs.Prelude.{◌≡◌, ℕ, suc, Bool, true, false, cond, List, [], ◌∷◌, map, Option, Some, None, option_map, option_and_then, slice_get}
-use Rattle.std.specs.List.{list_any}
+-- Requests by what was asked for and how it stands, and places in them.
+use Rattle.std.specs.Prelude.{ℕ, suc, Bool, true, false, cond, List, [], ◌∷◌, Option, Some, None, option_map, option_and_then, slice_get}
 use Rattle.books.specs.declared.Request.{Request}
-use Rattle.tree_types.specs.declared.entry.HolderKey.{HolderKey}
 use Rattle.books.specs.declared.LockState.TheVariants.{Waiting, Holding}
 use Rattle.books.specs.Books.{Text, before}
-use Rattle.books.specs.Laws.{is_of, is_first_for}
+use Rattle.books.specs.Laws.{is_first_for}
 use Rattle.books.specs.declared.LockState.{LockState}
-use Rattle.sync_locks.specs.Book.{state_in}
-use Rattle.sync_locks.specs.declared.row.Asked.{Asked}
-use Rattle.sync_locks.specs.declared.row.Row.{Row}
-use Rattle.sync_locks.specs.declared.row.Found.{Found}
+use Rattle.sync_locks.specs.declared.requests.Asked.{Asked}
 
 abbrev pub request_of : Asked → LockState → Request
 request_of asked state = record { lock = asked.lock; key = asked.key; rank = asked.rank; state = state }
 
-abbrev pub request_in : Row → Request
-request_in row = request_of row.asked.value row.state
+-- each with how it stands
+abbrev pub requests_in : List Asked → List LockState → List Request
+requests_in [] states = []
+requests_in (a ∷ asked) [] = []
+requests_in (a ∷ asked) (s ∷ states) = request_of a s ∷ requests_in asked states
 
-abbrev pub requests_in : List Row → List Request
-requests_in rows = map request_in rows
+abbrev pub asked_of : Request → Asked
+asked_of r = record { lock = r.lock; key = r.key; rank = r.rank }
+
+abbrev pub state_of : Request → LockState
+state_of r = r.state
+
+-- there is one, and it passes
+abbrev pub passes : (Request → Bool) → Option Request → Bool
+passes test None = false
+passes test (Some r) = test r
+
+-- the one at a place passes
+abbrev pub is_at : (Request → Bool) → List Request → ℕ → Bool
+is_at test rs place = passes test (slice_get rs place)
 
 -- how a new request stands, by whether its lock has room
 abbrev pub state_by : Bool → LockState
@@ -30,11 +40,6 @@ state_by false = Waiting
 abbrev pub place : (Request → Bool) → List Request → Option ℕ
 place test [] = None
 place test (r ∷ rs) = cond (test r) (Some 0) (option_map suc (place test rs))
-
--- the request of a key is found where it stands, if it has one
-abbrev pub IsFound : HolderKey → List Request → Option Found → Type 0
-IsFound key rs None = list_any (is_of key) rs ≡ false
-IsFound key rs (Some found) = (place (is_of key) rs ≡ Some found.place) × (state_in key rs ≡ Some found.state)
 
 -- where the first waiter of a lock stands
 abbrev pub first_place : Text → List Request → Option ℕ

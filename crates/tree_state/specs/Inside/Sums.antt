@@ -1,15 +1,16 @@
--- What is kept of the lines below a node: how many nodes stand there, and which kinds of lines.
-use Rattle.std.specs.Prelude.{Bool, true, ◌||◌, List}
+-- What is kept of the lines below a node: how many nodes and pods stand there, and which kinds of lines.
+use Rattle.std.specs.Prelude.{Bool, true, ◌||◌, ◌+◌, List, length}
 use Rattle.std.specs.List.{list_any}
 use Rattle.meaning.specs.declared.lines.Line.{Line}
 use Rattle.meaning.specs.Lines.{Parts, lines_below}
-use Rattle.meaning.specs.Trees.{beginnings_in}
+use Rattle.meaning.specs.Trees.{wants_in, beginnings_in}
 use Rattle.tree_state.specs.declared.kinds.WantKind.{WantKind}
 use Rattle.tree_state.specs.declared.kinds.WantKind.TheVariants.{Pod, Lock, LookUp, Arming, Timer, Save}
 use Rattle.tree_state.specs.declared.kinds.Asks.{Asks}
 use Rattle.tree_state.specs.declared.sum.Sum.{Sum}
 use Rattle.tree_state.specs.Asking.{ask_for}
 use Rattle.tree_state.specs.Counting.{count_below}
+use Rattle.tree_state.specs.Finding.{pods_in}
 
 -- some line says that a task may begin
 abbrev pub let_begin : List Line → Bool
@@ -47,4 +48,12 @@ asks_of Timer a = a.timers
 asks_of Save a = a.saves
 
 abbrev pub sum_of : Parts → Sum
-sum_of p = record { nodes = count_below p; asks = asks_in (lines_below p) }
+sum_of p = record {
+  nodes = count_below p;
+  pods = length (pods_in (wants_in (lines_below p)));
+  asks = asks_in (lines_below p);
+}
+
+-- with so much more
+abbrev pub sum_with : Sum → Sum → Sum
+sum_with s t = record { nodes = s.nodes + t.nodes; pods = s.pods + t.pods; asks = both_ask s.asks t.asks }

@@ -1,4 +1,4 @@
-use Rattle.std.proofs.Common.{sym, ap, ap₂, ◌∙◌, arith, List, min}
+use Rattle.std.proofs.Common.{Some, sym, ap, ap₂, ◌∙◌, arith, List, min}
 use Rattle.scopes.specs.Substitution.{Scope, value_in}
 use Rattle.meaning.specs.Steps.{Member, group_tags}
 use Rattle.row_states.proofs.Members.{none_left, tags_with, tags_of_members}
@@ -17,12 +17,12 @@ loop-left-init c = record {
 pub loop-left-preserved : goal.loop-left-preserved
 loop-left-preserved c =
     let called = c.get.result.now in
-    let made = c.get-in-loop-left.result.now in
+    let made = c.state.result.now in
     record {
       called = omega (arith, c.loop-left.invariant.called);
       made = omega (arith, c.loop-left.invariant.made);
       told =
-          tags_with c.args.calls.now c.args.states.now c.loop-left.left called made c.loop-left-test.true c.get.ensures c.get-in-loop-left.ensures
+          tags_with c.args.calls.now c.args.states.now c.loop-left.left called made c.loop-left-test.true c.get.ensures (c.get-in-loop-left.ensures ∙ ap Some (sym c.state.ensures))
           c.loop-left.tags c.add_tags_of.new.tags (c.in_ok-add_tags_of.ensures made (sym c.node.ensures)) c.loop-left.invariant.told;
     }
 

@@ -1,4 +1,4 @@
-use Rattle.std.proofs.Common.{sym, ap, ap₂, ◌∙◌, arith, List, min}
+use Rattle.std.proofs.Common.{Some, sym, ap, ap₂, ◌∙◌, arith, List, min}
 use Rattle.std.specs.Prelude.{map}
 use Rattle.tree_types.specs.declared.phase.Phase.{Phase}
 use Rattle.tree_types.specs.Phases.{worst, worst_of}
@@ -17,13 +17,13 @@ loop-left-init c = record {
 
 pub loop-left-preserved : goal.loop-left-preserved
 loop-left-preserved c =
-    let called = c.get.result.now in
-    let made = c.get-in-loop-left.result.now in
+    let called = c.get-in-loop-left.result.now in
+    let made = c.state-made.result.now in
     record {
       called = omega (arith, c.loop-left.invariant.called);
       made = omega (arith, c.loop-left.invariant.made);
       told =
-          worst_with c.args.calls.now c.args.states.now c.loop-left.left called made c.loop-left-test.true c.get.ensures c.get-in-loop-left.ensures
+          worst_with c.args.calls.now c.args.states.now c.loop-left.left called made c.loop-left-test.true c.get-in-loop-left.ensures (c.get.ensures ∙ ap Some (sym c.state-made.ensures))
           c.loop-left.phase c.worst-phase.result
           (c.worst-phase.ensures ∙ ap (λ (p : Phase). worst p c.loop-left.phase) (c.covered-seen.ensures ∙ ap (covered called.continue_on) c.phase.ensures))
           c.loop-left.invariant.told;

@@ -8,7 +8,7 @@ use Rattle.next_step.specs.Ticks.{ticks_by, least_above}
 use Rattle.tree_state.specs.Finding.{sooner}
 use Rattle.wf_object.specs.Documents.{law_of, command_of}
 use Rattle.sim_schedule.specs.declared.jobs.Job.{Job}
-use Rattle.sim_schedule.specs.Jobs.{given}
+use Rattle.sim_schedule.specs.Inside.Jobs.{given}
 use Rattle.sim_schedule.specs.Inside.Rosters.{ticks_of}
 use Rattle.sim_schedule.proofs.Dues.{by_roster, mapped_twice}
 use Rattle.sim_schedule.proofs.due.next_after.Goals as goal

@@ -3,7 +3,7 @@ use Rattle.std.proofs.Common.{◌∙◌, ap}
 use Rattle.history.specs.History.{clock_of}
 use Rattle.wf_object.specs.Documents.{law_of}
 use Rattle.tree_state.specs.Finding.{sooner}
-use Rattle.sim_schedule.specs.Jobs.{given}
+use Rattle.sim_schedule.specs.Inside.Jobs.{given}
 use Rattle.sim_schedule.specs.Inside.Rosters.{ticks_of}
 use Rattle.sim_schedule.proofs.Dues.{next_flat}
 use Rattle.sim_schedule.proofs.due.next_of.Goals as goal

@@ -4,7 +4,7 @@ use Rattle.std.specs.List.{flat_map}
 use Rattle.history.specs.History.{clock_of}
 use Rattle.next_step.specs.Ticks.{least_above}
 use Rattle.wf_object.specs.Documents.{law_of}
-use Rattle.sim_schedule.specs.Jobs.{given}
+use Rattle.sim_schedule.specs.Inside.Jobs.{given}
 use Rattle.sim_schedule.specs.Inside.Rosters.{ticks_of}
 use Rattle.sim_schedule.proofs.due.next_of.Given as goal
 

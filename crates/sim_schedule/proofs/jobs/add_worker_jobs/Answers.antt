@@ -2,7 +2,7 @@
 use Rattle.std.proofs.Common.{map}
 use Rattle.std.specs.Prelude.{option_map}
 use Rattle.next_step.specs.Rounds.{submitted_by}
-use Rattle.sim_schedule.specs.Jobs.{given}
+use Rattle.sim_schedule.specs.Inside.Jobs.{given}
 use Rattle.sim_schedule.proofs.Listing.{added_behind}
 use Rattle.sim_schedule.proofs.jobs.add_worker_jobs.Goals as goal
 

@@ -2,7 +2,7 @@
 use Rattle.std.proofs.Common.{map}
 use Rattle.std.specs.Prelude.{option_map}
 use Rattle.run_laws.specs.Pods.{still_open}
-use Rattle.sim_schedule.specs.Jobs.{given}
+use Rattle.sim_schedule.specs.Inside.Jobs.{given}
 use Rattle.sim_schedule.proofs.Listing.{added}
 use Rattle.sim_schedule.proofs.jobs.unfinished_jobs.Goals as goal
 

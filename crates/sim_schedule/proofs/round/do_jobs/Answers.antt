@@ -1,7 +1,7 @@
 -- One job more.
 use Rattle.std.proofs.Common.{◌++◌, map, take, refl}
 use Rattle.wf_object.specs.Documents.{law_of}
-use Rattle.sim_schedule.specs.Jobs.{given}
+use Rattle.sim_schedule.specs.Inside.Jobs.{given}
 use Rattle.sim_schedule.proofs.Doing.{none_yet, one_more, all_done}
 use Rattle.sim_schedule.proofs.Submitting.{stays, on}
 use Rattle.sim_schedule.proofs.round.do_jobs.Goals as goal

@@ -5,7 +5,7 @@ use Rattle.law.specs.Justified.{IsLawful}
 use Rattle.next_step.specs.Hands.{Given}
 use Rattle.run_laws.specs.Rounds.{JobsDone}
 use Rattle.wf_object.specs.Documents.{law_of}
-use Rattle.sim_schedule.specs.Jobs.{given}
+use Rattle.sim_schedule.specs.Inside.Jobs.{given}
 use Rattle.sim_schedule.specs.Sweeping.{GoesOn}
 use Rattle.sim_schedule.proofs.round.do_jobs.Given as goal
 

@@ -1,7 +1,7 @@
 -- The workflows' jobs, then the pods'.
 use Rattle.std.proofs.Common.{[], map}
 use Rattle.wf_object.specs.Documents.{law_of}
-use Rattle.sim_schedule.specs.Jobs.{given}
+use Rattle.sim_schedule.specs.Inside.Jobs.{given}
 use Rattle.sim_schedule.proofs.Doing.{round_done}
 use Rattle.sim_schedule.proofs.Rosters.{follows_now}
 use Rattle.sim_schedule.proofs.Submitting.{on}

@@ -2,7 +2,7 @@
 use Rattle.std.proofs.Common.{List, Option, subst}
 use Rattle.law.specs.Documents.{Text}
 use Rattle.wf_object.specs.Documents.{law_of}
-use Rattle.sim_schedule.specs.Sweeping.{TurnGives}
+use Rattle.sim_schedule.specs.Inside.Turns.{TurnGives}
 use Rattle.sim_schedule.proofs.Submitting.{on, kept_on, kept_end, swept_by}
 use Rattle.sim_schedule.proofs.whole_run.sweep.Goals as goal
 

@@ -1,7 +1,7 @@
 use Rattle.std.proofs.Common.{◌≡◌, ◌++◌, List, ℕ, subst}
 use Rattle.scopes.specs.Values.{HasValuesOf}
 use Rattle.meaning.specs.Lines.{Made, tags_of}
-use Rattle.tree_walk.specs.Inside.Walking.{label_of}
+use Rattle.tree_walk.specs.Walking.{label_of}
 use Rattle.tree_walk.proofs.Hooking.{hook_seen}
 use Rattle.tree_walk.proofs.over.hook_scope.Goals as goal
 

@@ -1,7 +1,7 @@
 -- All buckets are empty.
 use Rattle.std.proofs.Common.{◌≡◌, List, [], replicate, ◌∙◌, ap, subst, sym}
 use Rattle.tree_types.specs.declared.fact.Fact.{Fact}
-use Rattle.shared_facts.specs.Inside.Keys.{buckets}
+use Rattle.buckets.specs.Buckets.{buckets}
 use Rattle.shared_facts.specs.Inside.Tables.{IsTabled}
 use Rattle.shared_facts.proofs.Tabled.{tabled_none}
 use Rattle.shared_facts.proofs.facts.SharedFacts.new.Goals as goal

@@ -2,7 +2,7 @@
 use Rattle.std.proofs.Common.{List, ◌∙◌, ap, filter_map, length, refl}
 use Rattle.run_laws.specs.Pods.{still_open}
 use Rattle.sim_schedule.specs.declared.jobs.Job.{Job}
-use Rattle.sim_schedule.specs.Jobs.{given}
+use Rattle.sim_schedule.specs.Inside.Jobs.{given}
 use Rattle.sim_schedule.proofs.Rosters.{brought_up}
 use Rattle.sim_schedule.proofs.roster.Roster.follow.Goals as goal
 

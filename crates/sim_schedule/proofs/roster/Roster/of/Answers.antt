@@ -1,7 +1,7 @@
 -- The jobs of all entries.
 use Rattle.std.proofs.Common.{◌++◌, ◌∙◌, ap, map, length, refl}
 use Rattle.sim_schedule.specs.declared.roster.Roster.{Roster}
-use Rattle.sim_schedule.specs.Jobs.{given, flows_in, pods_in}
+use Rattle.sim_schedule.specs.Inside.Jobs.{given, flows_in, pods_in}
 use Rattle.sim_schedule.proofs.Rosters.{of_all}
 use Rattle.sim_schedule.proofs.roster.Roster.of.Goals as goal
 

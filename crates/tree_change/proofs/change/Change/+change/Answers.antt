@@ -1,23 +1,17 @@
 -- The way up: what changes below changes each node above.
-use Rattle.std.proofs.Common.{◌≡◌, ℕ, List, [], ◌∷◌, ◌++◌, append_assoc, Bool, true, false, Option, Some, None, codes, refl, sym, ap, ◌∙◌, subst}
+use Rattle.std.proofs.Common.{◌≡◌, ℕ, List, ◌++◌, false, Some, codes, refl, sym, ap, ◌∙◌, subst}
 use Rattle.std.specs.Prelude.{is_some, ◌&&◌, slice_get}
-use Rattle.tree_types.specs.declared.path.Sel.{Sel}
 use Rattle.tree_types.specs.declared.path.Sel.TheVariants.{Group, Step, Item}
 use Rattle.tree_types.specs.declared.phase.Phase.{Phase}
 use Rattle.wf_manifest.specs.declared.calls.Call.{Call}
-use Rattle.wf_manifest.specs.declared.templates.Body.TheVariants as body
 use Rattle.wf_manifest.specs.declared.templates.Template.{Template}
-use Rattle.scopes.specs.Substitution.{Scope}
-use Rattle.meaning.specs.declared.lines.Place.{Place}
-use Rattle.meaning.specs.Answers.{Sels, Answers}
+use Rattle.meaning.specs.Answers.{Sels}
 use Rattle.meaning.specs.Lines.{Made, row_in, all_finished}
 use Rattle.meaning.specs.Steps.{member_place, members, group_made, group_place, steps_made}
 use Rattle.meaning.specs.Calls.{template_named, hook_runs, template_made, one_made, calls}
 use Rattle.tree_types.specs.Places.{sels_eq}
 use Rattle.locality.proofs.OffPath.{apart_on_way}
-use Rattle.tree_state.specs.Replacing.{with_call}
 use Rattle.tree_change.specs.Entered.{IsRunning}
-use Rattle.tree_change.specs.Changes.{IfGiven}
 use Rattle.tree_change.proofs.Changing.{steps_were, group_changes, steps_change, steps_template_changes, one_changes, call_changes, loop_changes}
 use Rattle.tree_change.proofs.Given.{given_by, given_some, begins, further, some_same}
 use Rattle.tree_change.proofs.change.Change.+change.Goals as goal

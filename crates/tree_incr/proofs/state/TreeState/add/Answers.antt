@@ -6,18 +6,23 @@ use Rattle.tree_incr.specs.Workflows.{Workflow}
 use Rattle.tree_incr.proofs.Adding.{is_told, tree_within, added_within, added_past}
 use Rattle.tree_incr.proofs.state.TreeState.add.Goals as goal
 
+pub grown-requires : goal.grown-requires
+grown-requires c =
+    let more : c.add.new.self ≡ c.args.self.now.facts ++ c.args.fact ∷ [] = c.in_ok-add.ensures.ok ∙ ap (λ (J : Facts). J ++ c.args.fact ∷ []) (c.in_ok-facts.ensures ∙ ap (λ (w : Workflow). w.facts) c.self.view_is) in
+    record { fact = c.args.fact; added = more; path = c.in_ok-changed.ensures }
+
 pub returns-in_err-tree : goal.returns-in_err-tree
 returns-in_err-tree c =
     let more : c.add.new.self ≡ c.args.self.now.facts ++ c.args.fact ∷ [] = c.in_ok-add.ensures.ok ∙ ap (λ (J : Facts). J ++ c.args.fact ∷ []) (c.in_ok-facts.ensures ∙ ap (λ (w : Workflow). w.facts) c.self.view_is) in
     added_past c.args.self.now c.args.fact c.add.new.self more c.from_residual-in_err-tree.result c.in_err-tree.field-0.0 c.from_residual-in_err-tree.ensures.1
-    (λ s same told. same ∙ c.in_err-tree.ensures c.args.fact more c.in_ok-changed.ensures (λ h. told (same ∙ h)))
+    (λ s same told. same ∙ c.in_err-tree.ensures (λ h. told (same ∙ h)))
 
 pub over-requires : goal.over-requires
 over-requires c =
     let more : c.add.new.self ≡ c.args.self.now.facts ++ c.args.fact ∷ [] = c.in_ok-add.ensures.ok ∙ ap (λ (J : Facts). J ++ c.args.fact ∷ []) (c.in_ok-facts.ensures ∙ ap (λ (w : Workflow). w.facts) c.self.view_is) in
-    record { meant = tree_within c.args.self.now c.args.fact c.add.new.self more c.in_ok-tree.tree (c.in_ok-tree.ensures c.args.fact more c.in_ok-changed.ensures (is_told c.in_ok-tree.tree)) }
+    record { meant = tree_within c.args.self.now c.args.fact c.add.new.self more c.in_ok-tree.tree (c.in_ok-tree.ensures (is_told c.in_ok-tree.tree)) }
 
 pub returns : goal.returns
 returns c told =
     let more : c.add.new.self ≡ c.args.self.now.facts ++ c.args.fact ∷ [] = c.in_ok-add.ensures.ok ∙ ap (λ (J : Facts). J ++ c.args.fact ∷ []) (c.in_ok-facts.ensures ∙ ap (λ (w : Workflow). w.facts) c.self.view_is) in
-    added_within c.args.self.now c.args.fact c.add.new.self more c.in_ok-tree.tree c.in_ok-over.field-0 (c.in_ok-tree.ensures c.args.fact more c.in_ok-changed.ensures (is_told c.in_ok-tree.tree)) c.in_ok-over.ensures
+    added_within c.args.self.now c.args.fact c.add.new.self more c.in_ok-tree.tree c.in_ok-over.field-0 (c.in_ok-tree.ensures (is_told c.in_ok-tree.tree)) c.in_ok-over.ensures

@@ -10,7 +10,7 @@ use Rattle.tree_state.proofs.below.Below.add.Goals as goal
 
 pub invariant_of-self-2 : goal.invariant_of-self-2
 invariant_of-self-2 c =
-    kid_kept c.self.inside.kids.items c.args.kid c.self.inside.sum c.in_ok-sum.sum c.count.result c.asks.result c.self.invariant c.count.ensures c.asks.ensures c.in_ok-sum.ensures
+    kid_kept c.self.inside.kids.items c.args.kid c.self.inside.sum c.in_ok-sum.sum c.count.result c.pods.result c.asks.result c.self.invariant c.count.ensures c.pods.ensures c.asks.ensures c.in_ok-sum.ensures
     ∙ sym (ap (λ (ks : List Kid). sum_of (parts_of ks)) c.in_ok-push.ensures.items)
 
 pub returns : goal.returns

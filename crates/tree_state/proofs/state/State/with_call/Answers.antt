@@ -13,13 +13,13 @@ loop-kid-preserved c =
 pub returns : goal.returns
 returns c =
     let kids = c.deref-kid-items.result.now in
-    let all : parts_of c.below-2.inside.kids.items ≡ replaced c.args.self.now.parts c.args.position c.args.call =
-    c.below-2.view_is ∙ replaces_all kids c.loop-kid.kid-index c.loop-kid.below (replaced c.args.self.now.parts c.args.position c.args.call) c.loop-kid.left c.loop-kid.call (omega arith) c.loop-kid.invariant in
+    let all : parts_of c.into_kept-kids.result.0.items ≡ replaced c.args.self.now.parts c.args.position c.args.call =
+    c.into_kept-kids.ensures.kids ∙ replaces_all kids c.loop-kid.kid-index c.loop-kid.below (replaced c.args.self.now.parts c.args.position c.args.call) c.loop-kid.left c.loop-kid.call (omega arith) c.loop-kid.invariant in
     let old = c.self.inside in
     (λ i. record {
       own = record {
-        node = c.in_ok-copy.ensures i;
-        wants = c.in_ok-copy-2.ensures i;
+        node = c.in_ok-node.ensures i;
+        wants = c.in_ok-wants.ensures i;
         finished = old.finished;
         any_succeeded = old.any_succeeded;
         all_failed = old.all_failed;

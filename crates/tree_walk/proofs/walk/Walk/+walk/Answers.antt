@@ -1,24 +1,16 @@
 -- What the functions of a walk give.
-use Rattle.std.proofs.Common.{rules, suc, get_or, take, ◌≡◌, ℕ, ◌+◌, ◌<◌, ◌≤◌, List, [], ◌∷◌, ◌++◌, Option, Some, None, length, drop, Result, Ok, Err, refl, sym, ap, ◌∙◌, subst, arith}
-use Rattle.std.proofs.lemmas.List.{append-nil, drop_all}
+use Rattle.std.proofs.Common.{rules, suc, get_or, take, ◌≡◌, ℕ, ◌+◌, ◌<◌, ◌≤◌, [], ◌∷◌, ◌++◌, Option, Some, None, length, drop, Result, Ok, Err, refl, sym, ap, ◌∙◌, subst, arith}
 use Rattle.std.specs.Prelude.{option_copied}
-use Rattle.wf_manifest.specs.declared.calls.Call.{Call}
-use Rattle.wf_manifest.proofs.Each.{All-from_list_all}
-use Rattle.serde_json.specs.Data.{Data}
-use Rattle.fanout.specs.Items.{is_whole}
-use Rattle.scopes.specs.Substitution.{Scope}
-use Rattle.scopes.specs.Values.{HasValuesOf}
-use Rattle.meaning.specs.Lines.{Made, numbered, tags_of}
+use Rattle.meaning.specs.Lines.{Made, numbered}
 use Rattle.meaning.specs.Answers.{MemoAnswer}
 use Rattle.meaning.specs.Steps.{members, makings, groups_from}
-use Rattle.meaning.specs.Calls.{kind_named, item_made, items_made, body_made, template_made, hooked, remembered, saving, hook_runs, calls}
+use Rattle.meaning.specs.Calls.{kind_named, item_made, body_made, template_made, hooked, remembered, saving, hook_runs, calls}
 use Rattle.tree_state.specs.Counting.{Gives, count}
 use Rattle.row_states.specs.Rows.{count_row}
-use Rattle.recorded.specs.Ends.{memo_answered}
-use Rattle.tree_walk.specs.Inside.Walking.{GivesRow, GivesGroups, hook_depth, label_of, prefix_of}
+use Rattle.tree_walk.specs.Walking.{GivesRow, GivesGroups, hook_depth, label_of, prefix_of}
 use Rattle.tree_walk.proofs.Rooms.{by_err, part_fails, row_next, row_stops, row_done, room_after, few_in_row, long_more}
-use Rattle.tree_walk.proofs.Groups.{behind, member_at, member_here, members_row, members_calls, turn, group_done, groups_begin, groups_done, groups_fail, groups_room, groups_next, groups_stop}
-use Rattle.tree_walk.proofs.Calling.{alike, goes_deeper, called_enters, item_done, hooked_longer, hook_done, entered_hooks, count_saving, steps_done}
+use Rattle.tree_walk.proofs.Groups.{member_at, member_here, members_row, members_calls, turn, group_done, groups_begin, groups_done, groups_fail, groups_room, groups_next, groups_stop}
+use Rattle.tree_walk.proofs.Calling.{alike, goes_deeper, called_enters, item_done, hooked_longer, hook_done, count_saving, steps_done}
 use Rattle.tree_state.specs.declared.refused.TreeRefused.{TreeRefused}
 use Rattle.meaning.specs.Dags.{standings, dag_made}
 use Rattle.dag_board.specs.Boards.{IsBoard, IsTurn, stands_at}
@@ -185,11 +177,12 @@ items-loop-item-preserved g t c =
     let made = item_made m A scopes called (prefix_of c.args.of) c.args.place.now c.args.scope.now c.args.call.now in
     let parts = turn c.as_slice-item-items.result.now c.args.items.now c.loop-item.i c.loop-item.item-index c.item-item.result c.as_slice-item-items.ensures c.loop-item.invariant.counted c.loop-item-test.true c.item-item.is in
     let given = c.in_ok-state.ensures in
+    let pushed : c.push.new.self ≡ c.loop-item.states ++ c.in_ok-state.state ∷ [] = c.in_ok-push.ensures.ok ∙ ap (λ (s : Made). c.loop-item.states ++ s ∷ []) c.in_ok-new.ensures in
     record {
       counted = omega (arith, c.loop-item.invariant.counted);
-      told = ap (λ ms. ms ++ numbered made (c.loop-item.i + 1) (drop (c.loop-item.i + 1) c.args.items.now)) c.in_ok-push.ensures.ok ∙ row_next made c.loop-item.states c.loop-item.i c.item-item.result c.in_ok-state.state (drop (c.loop-item.i + 1) c.args.items.now) (drop c.loop-item.i c.args.items.now) (numbered made 0 c.args.items.now) parts given.0 c.loop-item.invariant.told;
-      long = ap (λ ms. length ms) c.in_ok-push.ensures.ok ∙ long_more c.loop-item.states c.in_ok-state.state c.loop-item.i c.loop-item.invariant.long;
-      room = ap (λ ms. c.item.new.room + count_row ms) c.in_ok-push.ensures.ok ∙ room_after c.loop-item.states c.in_ok-state.state (made c.loop-item.i c.item-item.result) c.args.room.now c.loop-item.room c.item.new.room c.loop-item.invariant.room given;
+      told = ap (λ ms. ms ++ numbered made (c.loop-item.i + 1) (drop (c.loop-item.i + 1) c.args.items.now)) pushed ∙ row_next made c.loop-item.states c.loop-item.i c.item-item.result c.in_ok-state.state (drop (c.loop-item.i + 1) c.args.items.now) (drop c.loop-item.i c.args.items.now) (numbered made 0 c.args.items.now) parts given.0 c.loop-item.invariant.told;
+      long = ap (λ ms. length ms) pushed ∙ long_more c.loop-item.states c.in_ok-state.state c.loop-item.i c.loop-item.invariant.long;
+      room = ap (λ ms. c.item.new.room + count_row ms) pushed ∙ room_after c.loop-item.states c.in_ok-state.state (made c.loop-item.i c.item-item.result) c.args.room.now c.loop-item.room c.item.new.room c.loop-item.invariant.room given;
     }
 
 pub items-returns : goal.items-returns
@@ -247,11 +240,12 @@ members-loop-call-preserved g t c =
     let here = member_here called c.args.group.now c.args.scope.now c.loop-call.j c.call-item.result c.in_ok-at.at c.in_ok-at.ensures in
     let given = c.in_ok-state.ensures in
     let as_meant : (c.in_ok-state.state ≡ made c.loop-call.j c.call-item.result) × (c.call.new.room + count (made c.loop-call.j c.call-item.result) ≡ c.loop-call.room) = (given.0 ∙ here, omega (arith, ap count here, given.1)) in
+    let pushed : c.push.new.self ≡ c.loop-call.states ++ c.in_ok-state.state ∷ [] = c.in_ok-push.ensures.ok ∙ ap (λ (s : Made). c.loop-call.states ++ s ∷ []) c.in_ok-new.ensures in
     record {
       counted = omega (arith, c.loop-call.invariant.counted);
-      told = ap (λ ms. ms ++ numbered made (c.loop-call.j + 1) (drop (c.loop-call.j + 1) c.args.calls.now)) c.in_ok-push.ensures.ok ∙ row_next made c.loop-call.states c.loop-call.j c.call-item.result c.in_ok-state.state (drop (c.loop-call.j + 1) c.args.calls.now) (drop c.loop-call.j c.args.calls.now) (numbered made 0 c.args.calls.now) parts as_meant.0 c.loop-call.invariant.told;
-      long = ap (λ ms. length ms) c.in_ok-push.ensures.ok ∙ long_more c.loop-call.states c.in_ok-state.state c.loop-call.j c.loop-call.invariant.long;
-      room = ap (λ ms. c.call.new.room + count_row ms) c.in_ok-push.ensures.ok ∙ room_after c.loop-call.states c.in_ok-state.state (made c.loop-call.j c.call-item.result) c.args.room.now c.loop-call.room c.call.new.room c.loop-call.invariant.room as_meant;
+      told = ap (λ ms. ms ++ numbered made (c.loop-call.j + 1) (drop (c.loop-call.j + 1) c.args.calls.now)) pushed ∙ row_next made c.loop-call.states c.loop-call.j c.call-item.result c.in_ok-state.state (drop (c.loop-call.j + 1) c.args.calls.now) (drop c.loop-call.j c.args.calls.now) (numbered made 0 c.args.calls.now) parts as_meant.0 c.loop-call.invariant.told;
+      long = ap (λ ms. length ms) pushed ∙ long_more c.loop-call.states c.in_ok-state.state c.loop-call.j c.loop-call.invariant.long;
+      room = ap (λ ms. c.call.new.room + count_row ms) pushed ∙ room_after c.loop-call.states c.in_ok-state.state (made c.loop-call.j c.call-item.result) c.args.room.now c.loop-call.room c.call.new.room c.loop-call.invariant.room as_meant;
     }
 
 pub members-returns : goal.members-returns

@@ -1,15 +1,15 @@
 -- How the calls of a walk go down, and what its loops keep.
-use Rattle.std.proofs.Common.{◌≡◌, ℕ, ◌+◌, ◌*◌, ◌++◌, length, drop, take}
+use Rattle.std.proofs.Common.{◌≡◌, ◌+◌, ◌*◌, ◌++◌, length, drop, take}
 use Rattle.meaning.specs.Lines.{numbered}
 use Rattle.meaning.specs.Steps.{groups_from}
-use Rattle.meaning.specs.Calls.{calls, item_made, items_made}
+use Rattle.meaning.specs.Calls.{calls, item_made}
 use Rattle.meaning.specs.Dags.{standings}
 use Rattle.dag_board.specs.Boards.{IsBoard}
 use Rattle.tree_walk.specs.Inside.Tasks.{count_at}
 use Rattle.row_states.specs.Rows.{count_row}
 use Rattle.scope_laws.specs.Agreeing.{GroupsAlike}
-use Rattle.tree_walk.specs.Inside.Walking.{hook_depth, prefix_of}
-use Rattle.tree_walk.proofs.Groups.{behind, member_at, members_row}
+use Rattle.tree_walk.specs.Walking.{hook_depth, prefix_of}
+use Rattle.tree_walk.proofs.Groups.{behind, member_at}
 use Rattle.tree_walk.proofs.walk.Walk.+walk.Given as goal
 
 abbrev pub decreases-call : goal.decreases-call

@@ -1,11 +1,5 @@
 -- A template that is found is one of the manifest's, which may be walked over.
-use Rattle.std.proofs.Common.{◌≡◌, Option, Some, None, IfSome, ap, ◌∙◌, sym, Bor}
-use Rattle.std.specs.Prelude.{bytes_eq, option_copied}
-use Rattle.wf_manifest.specs.declared.templates.Template.{Template}
-use Rattle.wf_manifest.proofs.Each.{All-found}
-use Rattle.meaning.specs.Calls.{template_named}
-use Rattle.tree_walk.specs.Inside.Walkable.{IsWalkable}
-use Rattle.tree_walk.proofs.Walkable.{walkable_templates, walkable_found}
+use Rattle.tree_walk.proofs.Walkable.{walkable_found}
 use Rattle.tree_walk.proofs.walk.Walk.template_of.Goals as goal
 
 pub returns-clause-walkable : goal.returns-clause-walkable

@@ -1,6 +1,5 @@
 -- A content of another kind ends the job.
-use Rattle.std.proofs.Common.{◌≡◌, ◌∙◌, sym, ap, option_map}
-use Rattle.sync_locks.specs.declared.book.LockBook.{LockBook}
+use Rattle.std.proofs.Common.{◌∙◌, sym, ap, option_map}
 use Rattle.wf_object.specs.Kept.{law_book}
 use Rattle.worker_job.proofs.OtherKinds.{none_by, no_locks}
 use Rattle.worker_job.proofs.job.Job.keep_book.Goals as goal

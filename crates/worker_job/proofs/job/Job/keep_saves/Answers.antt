@@ -1,5 +1,5 @@
 -- A content of another kind ends the job.
-use Rattle.std.proofs.Common.{◌≡◌, ◌∙◌, sym, ap}
+use Rattle.std.proofs.Common.{◌∙◌, sym, ap}
 use Rattle.std.specs.Option.{option_copied}
 use Rattle.worker_job.proofs.OtherKinds.{none_by, no_caches}
 use Rattle.worker_job.proofs.job.Job.keep_saves.Goals as goal

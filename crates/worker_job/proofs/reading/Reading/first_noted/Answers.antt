@@ -1,17 +1,21 @@
 use Rattle.std.proofs.Common.{◌∙◌}
 use Rattle.std.specs.Prelude.{Some, None}
-use Rattle.tree_state.specs.declared.kinds.WantKind.TheVariants as kind
+use Rattle.law.specs.Justified.{wants_of}
 use Rattle.worker_job.specs.Readings as reads
-use Rattle.worker_job.proofs.Wanted.{wanted, creating_only}
+use Rattle.worker_job.specs.Inside.Marks.{absent}
+use Rattle.worker_job.proofs.Wanted.{creating_only}
+use Rattle.worker_job.proofs.Marked.{podded, known_by, found_by, creates_absent}
 use Rattle.worker_job.proofs.reading.Reading.first_noted.Goals as goal
 
 pub returns-in-None : goal.returns-in-None
 returns-in-None c =
     let r = c.args.self.now in
-    wanted r.object.now.manifest r.object.now.journal c.state.result.now kind.Pod (reads.creating r) None (creating_only r) c.state.ensures c.in-None.ensures
+    podded (reads.creating r) (absent r.job.now.views.pods r.object.now) (wants_of r.object.now) None (creating_only r) (creates_absent r)
+    (found_by absent c.pods.ensures.looks c.pods.ensures.object (c.in-None.ensures.first (known_by absent c.pods.ensures.looks c.pods.ensures.object r.marks.created c.requires.marked.created)))
 
 pub returns-in-Some : goal.returns-in-Some
 returns-in-Some c =
     let r = c.args.self.now in
     c.noted.ensures
-    ∙ wanted r.object.now.manifest r.object.now.journal c.state.result.now kind.Pod (reads.creating r) (Some c.in-Some.want.now) (creating_only r) c.state.ensures c.in-Some.ensures
+    ∙ podded (reads.creating r) (absent r.job.now.views.pods r.object.now) (wants_of r.object.now) (Some c.in-Some.want.now) (creating_only r) (creates_absent r)
+    (found_by absent c.pods.ensures.looks c.pods.ensures.object (c.in-Some.ensures.first (known_by absent c.pods.ensures.looks c.pods.ensures.object r.marks.created c.requires.marked.created)))

@@ -1,17 +1,21 @@
 use Rattle.std.proofs.Common.{◌∙◌}
 use Rattle.std.specs.Prelude.{Some, None}
-use Rattle.tree_state.specs.declared.kinds.WantKind.TheVariants as kind
+use Rattle.law.specs.Justified.{wants_of}
 use Rattle.worker_job.specs.Readings as reads
-use Rattle.worker_job.proofs.Wanted.{wanted, reading_only}
+use Rattle.worker_job.specs.Inside.Marks.{unread}
+use Rattle.worker_job.proofs.Wanted.{reading_only}
+use Rattle.worker_job.proofs.Marked.{podded, known_by, found_by, reads_unread}
 use Rattle.worker_job.proofs.reading.Reading.first_unlooked.Goals as goal
 
 pub returns-in-None : goal.returns-in-None
 returns-in-None c =
     let r = c.args.self.now in
-    wanted r.object.now.manifest r.object.now.journal c.state.result.now kind.Pod (reads.reading r) None (reading_only r) c.state.ensures c.in-None.ensures
+    podded (reads.reading r) (unread r.job.now.views.pods r.object.now) (wants_of r.object.now) None (reading_only r) (reads_unread r)
+    (found_by unread c.pods.ensures.looks c.pods.ensures.object (c.in-None.ensures.first (known_by unread c.pods.ensures.looks c.pods.ensures.object r.marks.read c.requires.marked.read)))
 
 pub returns-in-Some : goal.returns-in-Some
 returns-in-Some c =
     let r = c.args.self.now in
     c.unlooked.ensures
-    ∙ wanted r.object.now.manifest r.object.now.journal c.state.result.now kind.Pod (reads.reading r) (Some c.in-Some.want.now) (reading_only r) c.state.ensures c.in-Some.ensures
+    ∙ podded (reads.reading r) (unread r.job.now.views.pods r.object.now) (wants_of r.object.now) (Some c.in-Some.want.now) (reading_only r) (reads_unread r)
+    (found_by unread c.pods.ensures.looks c.pods.ensures.object (c.in-Some.ensures.first (known_by unread c.pods.ensures.looks c.pods.ensures.object r.marks.read c.requires.marked.read)))

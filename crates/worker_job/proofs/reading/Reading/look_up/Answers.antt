@@ -1,8 +1,8 @@
 -- The first want of the kind.
-use Rattle.std.proofs.Common.{◌≡◌, ap, subst}
-use Rattle.std.specs.Prelude.{Some, None, IfOk, option_map}
+use Rattle.std.proofs.Common.{◌≡◌, subst}
+use Rattle.std.specs.Prelude.{Some, None, IfOk}
 use Rattle.tree_state.specs.declared.kinds.WantKind.TheVariants as kind
-use Rattle.next_step.specs.Next.{Step, act}
+use Rattle.next_step.specs.Next.{Step}
 use Rattle.worker_job.specs.Readings as reads
 use Rattle.worker_job.specs.Readings.{step_told}
 use Rattle.worker_job.proofs.Wanted.{wanted_first, looking_each}

@@ -1,0 +1,3 @@
+-- What speaks only of this crate's private code.
+pub mod Buckets
+pub mod Tables

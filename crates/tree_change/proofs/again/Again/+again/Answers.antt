@@ -1,0 +1,441 @@
+-- What a walk that is made again gives.
+use Rattle.std.proofs.Common.{rules, suc, ◌≡◌, ℕ, ◌+◌, ◌<◌, ◌≤◌, List, [], ◌∷◌, ◌++◌, length, drop, Ok, Err, codes, refl, sym, ap, ◌∙◌, subst, arith, IsTrue, All}
+use Rattle.std.specs.Prelude.{option_copied, slice_get}
+use Rattle.wf_manifest.proofs.Each.{All-from_list_all}
+use Rattle.fanout.specs.Items.{is_whole}
+use Rattle.tree_types.specs.declared.path.Sel.TheVariants.{Group, Item}
+use Rattle.meaning.specs.declared.lines.Place.{Place}
+use Rattle.meaning.specs.Answers.{Sels}
+use Rattle.meaning.specs.Lines.{Made, numbered}
+use Rattle.meaning.specs.Steps.{Member, members, members_at, makings, member_place, group_place, group_made, groups_from, steps_made}
+use Rattle.meaning.specs.Calls.{item_made, template_made, hooked, saving, calls}
+use Rattle.locality.proofs.OffPath.{apart_on_way}
+use Rattle.tree_state.specs.Counting.{Gives}
+use Rattle.row_states.specs.Rows.{count_row}
+use Rattle.tree_walk.specs.Walkable.{IsNamed}
+use Rattle.tree_walk.specs.Walking.{GivesRow, GivesGroups, label_of, prefix_of}
+use Rattle.tree_change.proofs.Beside.{same_below, item_beside, member_beside, group_beside, group_were, groups_were, is_there, numbered_here, numbered_low, group_stood, groups_stood}
+use Rattle.tree_change.proofs.Calling.{alike, called_enters, item_done, hooked_longer, count_saving, steps_done, one_again, looped_was, looped_again, items_were, template_was, item_was}
+use Rattle.tree_change.proofs.Changing.{steps_template_again, steps_template_saved}
+use Rattle.tree_change.proofs.Given.{some_same}
+use Rattle.tree_walk.proofs.Groups.{member_at, members_row, members_calls, turn, group_done, groups_fail, groups_room, groups_next, groups_stop}
+use Rattle.tree_walk.proofs.Rooms.{gives_as, by_err, part_fails, row_next, row_stops, row_done, room_after, few_in_row, long_more}
+use Rattle.tree_change.proofs.again.Again.+again.Goals as goal
+
+-- ---- calls
+
+pub call-returns-in_default : goal.call-returns-in_default
+call-returns-in_default g t c =
+    let m = c.args.self.now.walk.manifest.now in
+    let A = g.R.Recorded.answers c.args.self.now.walk.recorded.now in
+    let B = g.R.Recorded.answers c.args.self.now.before.now in
+    one_again m A B c.args.self.now.walk.globals.now c.args.left (prefix_of c.args.of) c.args.place c.args.scope.now c.args.call.now c.args.old.now c.if-left-eq0.false c.requires.was (c.if-not-is_running.ensures refl) c.args.room.now c.one.new.room c.one.result c.in_default.is c.one.ensures
+
+pub call-looped-requires : goal.call-looped-requires
+call-looped-requires g t c κs within =
+    let m = c.args.self.now.walk.manifest.now in
+    let A = g.R.Recorded.answers c.args.self.now.walk.recorded.now in
+    let B = g.R.Recorded.answers c.args.self.now.before.now in
+    let was = looped_was m A B c.args.self.now.walk.globals.now c.args.left (prefix_of c.args.of) c.args.place c.args.scope.now c.args.call.now c.args.old.now c.if-left-eq0.false c.requires.was (c.if-not-is_running.ensures refl) c.in-Some.each c.in-Ok.items c.in-Some.is c.in-Ok.ensures.told in
+    (omega (arith, c.if-left-eq0.false), (within, (c.requires.ready, (All-from_list_all is_whole c.in-Ok.items c.in-Ok.ensures.whole, (omega (arith, c.if-left-eq0.false, c.requires.shallow), (c.requires.same, was))))))
+
+pub call-returns-in-Ok : goal.call-returns-in-Ok
+call-returns-in-Ok g t c =
+    let m = c.args.self.now.walk.manifest.now in
+    let A = g.R.Recorded.answers c.args.self.now.walk.recorded.now in
+    let B = g.R.Recorded.answers c.args.self.now.before.now in
+    looped_again m A B c.args.self.now.walk.globals.now c.args.left (prefix_of c.args.of) c.args.place c.args.scope.now c.args.call.now c.args.old.now c.if-left-eq0.false c.requires.was (c.if-not-is_running.ensures refl) c.in-Some.each c.in-Ok.items c.args.room.now c.looped.new.room c.looped.result c.in-Some.is c.in-Ok.ensures.told c.looped.ensures
+
+pub called-entered-requires : goal.called-entered-requires
+called-entered-requires g t c κs within =
+    let m = c.args.self.now.walk.manifest.now in
+    let B = g.R.Recorded.answers c.args.self.now.before.now in
+    let was = template_was m B c.args.self.now.walk.globals.now c.args.left (label_of c.args.after) c.args.place c.args.scope.now c.in-Ok.inner c.args.name.now c.args.given.now (option_copied c.args.after.exit) c.in-Some.template.now c.args.old.now c.in-Some.ensures.found c.in-Ok.ensures c.requires.was c.requires.runs in
+    (omega arith, (within, (c.requires.ready, (c.in-Some.ensures.walkable, (c.requires.shallow, (c.requires.same, (c.requires.runs, was)))))))
+
+pub called-returns-in-Ok : goal.called-returns-in-Ok
+called-returns-in-Ok g t c =
+    let m = c.args.self.now.walk.manifest.now in
+    let A = g.R.Recorded.answers c.args.self.now.walk.recorded.now in
+    let scopes = c.args.self.now.walk.globals.now in
+    called_enters m A scopes c.args.left c.args.place c.args.scope.now c.in-Ok.inner c.args.name.now c.args.given.now (hooked m A scopes (calls m A scopes c.args.left) (label_of c.args.after) c.args.place c.args.scope.now (option_copied c.args.after.exit)) c.in-Some.template.now c.args.room.now c.entered.new.room c.entered.result c.in-Some.ensures.found c.in-Ok.ensures c.entered.ensures
+
+pub entered-returns-in_err-state : goal.entered-returns-in_err-state
+entered-returns-in_err-state g t c =
+    let m = c.args.self.now.walk.manifest.now in
+    let A = g.R.Recorded.answers c.args.self.now.walk.recorded.now in
+    let scopes = c.args.self.now.walk.globals.now in
+    let called = calls m A scopes c.args.left in
+    let made = template_made A called c.args.place c.args.inner.now c.args.template.now in
+    let whole = hooked m A scopes called (label_of c.args.after) c.args.place c.args.scope.now (option_copied c.args.after.exit) made in
+    by_err (λ r. Gives c.args.room.now c.template-2.new.room r whole) c.from_residual-in_err-state.result c.in_err-state.field-0.0 c.from_residual-in_err-state.ensures.1
+    (part_fails c.args.room.now c.template-2.new.room made whole c.in_err-state.field-0.0 (hooked_longer m A scopes c.args.left (label_of c.args.after) c.args.place c.args.scope.now (option_copied c.args.after.exit) made) c.in_err-state.ensures)
+
+pub template-returns-in_default-memoize : goal.template-returns-in_default-memoize
+template-returns-in_default-memoize g t c =
+    let m = c.args.self.now.walk.manifest.now in
+    let A = g.R.Recorded.answers c.args.self.now.walk.recorded.now in
+    let B = g.R.Recorded.answers c.args.self.now.before.now in
+    let scopes = c.args.self.now.walk.globals.now in
+    let u = c.args.template.now in
+    let gs = c.in-Some.groups.now in
+    let changed = c.args.place.sels ++ c.args.rest.now in
+    let apart = apart_on_way A B changed c.requires.same c.args.place.sels c.in-Some.others.now (Group c.in-Some.j) (ap (λ (r : Sels). c.args.place.sels ++ r) c.in-Some.ensures.path) in
+    let made = steps_template_again m A B changed c.requires.same scopes c.args.left c.args.place c.args.scope.now u gs c.args.old.now c.requires.was c.requires.runs c.in-Some.ensures.steps c.in_default-memoize.is apart in
+    gives_as c.args.room.now c.steps.new.room c.steps.result (steps_made (calls m A scopes c.args.left) c.args.place c.args.scope.now u.outputs gs) (template_made A (calls m A scopes c.args.left) c.args.place c.args.scope.now u) (sym made) c.steps.ensures
+
+pub template-returns-in-Ok : goal.template-returns-in-Ok
+template-returns-in-Ok g t c =
+    let m = c.args.self.now.walk.manifest.now in
+    let A = g.R.Recorded.answers c.args.self.now.walk.recorded.now in
+    let B = g.R.Recorded.answers c.args.self.now.before.now in
+    let scopes = c.args.self.now.walk.globals.now in
+    let u = c.args.template.now in
+    let gs = c.in-Some.groups.now in
+    let changed = c.args.place.sels ++ c.args.rest.now in
+    let apart = apart_on_way A B changed c.requires.same c.args.place.sels c.in-Some.others.now (Group c.in-Some.j) (ap (λ (r : Sels). c.args.place.sels ++ r) c.in-Some.ensures.path) in
+    let made = steps_template_saved m A B changed c.requires.same scopes c.args.left c.args.place c.args.scope.now u gs c.in-Some-memoize.memoize c.in-Ok.key c.args.old.now c.requires.was c.requires.runs c.in-Some.ensures.steps c.in-Some-memoize.is c.in-Ok.ensures apart in
+    gives_as c.args.room.now c.missed.new.room c.missed.result (saving c.args.place c.in-Some-memoize.memoize c.in-Ok.key (steps_made (calls m A scopes c.args.left) c.args.place c.args.scope.now u.outputs gs)) (template_made A (calls m A scopes c.args.left) c.args.place c.args.scope.now u) (sym made) c.missed.ensures
+
+pub missed-returns-in_err-state : goal.missed-returns-in_err-state
+missed-returns-in_err-state g t c =
+    let m = c.args.self.now.walk.manifest.now in
+    let A = g.R.Recorded.answers c.args.self.now.walk.recorded.now in
+    let scopes = c.args.self.now.walk.globals.now in
+    let b = steps_made (calls m A scopes c.args.left) c.args.place c.args.scope.now c.args.declared.now c.args.groups.now in
+    let whole = saving c.args.place c.args.memoize.now c.args.key b in
+    by_err (λ r. Gives c.args.room.now c.steps.new.room r whole) c.from_residual-in_err-state.result c.in_err-state.field-0.0 c.from_residual-in_err-state.ensures.1
+    (part_fails c.args.room.now c.steps.new.room b whole c.in_err-state.field-0.0 (omega (arith, count_saving c.args.place c.args.memoize.now c.args.key b)) c.in_err-state.ensures)
+
+pub missed-returns : goal.missed-returns
+missed-returns g t c =
+    let m = c.args.self.now.walk.manifest.now in
+    let A = g.R.Recorded.answers c.args.self.now.walk.recorded.now in
+    let scopes = c.args.self.now.walk.globals.now in
+    let b = steps_made (calls m A scopes c.args.left) c.args.place c.args.scope.now c.args.declared.now c.args.groups.now in
+    let given = c.in_ok-state.ensures in (
+      c.in_ok-saving.ensures c.args.place (sym c.in_ok-at.ensures) ∙ ap (λ (x : Made). saving c.args.place c.args.memoize.now c.args.key x) given.0,
+      omega (arith, count_saving c.args.place c.args.memoize.now c.args.key b, given.1),
+    )
+
+-- ---- items
+
+pub looped-items-requires : goal.looped-items-requires
+looped-items-requires g t c κs within =
+    let m = c.args.self.now.walk.manifest.now in
+    let A = g.R.Recorded.answers c.args.self.now.walk.recorded.now in
+    let B = g.R.Recorded.answers c.args.self.now.before.now in
+    let scopes = c.args.self.now.walk.globals.now in
+    let some : c.args.items.now ≡ [] → ⊥ = λ e. cc (c.is_empty.ensures.1 e, c.if-is_empty.false) in
+    let was = c.in_ok-before.ensures ∙ items_were m A B scopes (calls m A scopes c.args.left) (calls m B scopes c.args.left) (prefix_of c.args.of) c.args.place c.args.scope.now c.args.call.now c.args.old.now c.args.items.now some c.requires.was in
+    (omega arith, (within, (c.requires.ready, (c.requires.whole, (c.in_ok-take.ensures.few, (c.requires.shallow, (c.requires.same, was)))))))
+
+pub item-returns-in_default : goal.item-returns-in_default
+item-returns-in_default g t c =
+    let m = c.args.self.now.walk.manifest.now in
+    let A = g.R.Recorded.answers c.args.self.now.walk.recorded.now in
+    let B = g.R.Recorded.answers c.args.self.now.before.now in
+    let scopes = c.args.self.now.walk.globals.now in
+    gives_as c.args.room.now c.shared.new.room c.shared.result c.args.old.now (item_made m A scopes (calls m A scopes c.args.left) (prefix_of c.args.of) c.args.place.now c.args.scope.now c.args.call.now c.args.i c.args.item.now)
+    (c.requires.was ∙ item_beside m A B scopes c.args.left (prefix_of c.args.of) c.args.place.now c.args.scope.now c.args.call.now c.args.i c.args.item.now c.args.rest.now c.requires.same c.in_default.ensures.off)
+    c.shared.ensures
+
+pub item-one-requires : goal.item-one-requires
+item-one-requires g t c κs within =
+    let m = c.args.self.now.walk.manifest.now in
+    let A = g.R.Recorded.answers c.args.self.now.walk.recorded.now in
+    let B = g.R.Recorded.answers c.args.self.now.before.now in
+    let scopes = c.args.self.now.walk.globals.now in
+    let same = same_below A B c.args.place.now.sels c.in_ok-at.at.sels (Item c.args.i) c.args.rest.now c.in-Some.others.now c.requires.same c.in-Some.ensures.on (ap (λ (p : Place). p.sels) c.in_ok-at.ensures) in
+    let was = c.state.ensures ∙ item_was m B scopes c.args.left (prefix_of c.args.of) c.args.place.now c.in_ok-at.at c.args.scope.now c.in_ok-inner.inner c.args.call.now c.args.i c.args.item.now c.args.old.now c.in_ok-inner.ensures c.in_ok-at.ensures c.requires.was in
+    let depth : c.in_ok-at.at.depth ≡ suc c.args.place.now.depth = ap (λ (p : Place). p.depth) c.in_ok-at.ensures in
+    (omega arith, (within, (c.requires.ready, (omega (arith, depth, c.requires.shallow), (same, was)))))
+
+pub item-returns-in_err-state : goal.item-returns-in_err-state
+item-returns-in_err-state g t c =
+    let m = c.args.self.now.walk.manifest.now in
+    let A = g.R.Recorded.answers c.args.self.now.walk.recorded.now in
+    let scopes = c.args.self.now.walk.globals.now in
+    let made = item_made m A scopes (calls m A scopes c.args.left) (prefix_of c.args.of) c.args.place.now c.args.scope.now c.args.call.now c.args.i c.args.item.now in
+    by_err (λ r. Gives c.args.room.now c.one.new.room r made) c.from_residual-in_err-state.result c.in_err-state.field-0.0 c.from_residual-in_err-state.ensures.1
+    (item_done m A scopes c.args.left (prefix_of c.args.of) c.args.place.now c.in_ok-at.at c.args.scope.now c.in_ok-inner.inner c.args.call.now c.args.i c.args.item.now c.args.room.now c.one.new.room (Err c.in_err-state.field-0.0) c.in_ok-inner.ensures c.in_ok-at.ensures c.in_err-state.ensures)
+
+pub item-returns : goal.item-returns
+item-returns g t c =
+    let m = c.args.self.now.walk.manifest.now in
+    let A = g.R.Recorded.answers c.args.self.now.walk.recorded.now in
+    let scopes = c.args.self.now.walk.globals.now in
+    let done = item_done m A scopes c.args.left (prefix_of c.args.of) c.args.place.now c.in_ok-at.at c.args.scope.now c.in_ok-inner.inner c.args.call.now c.args.i c.args.item.now c.args.room.now c.one.new.room (Ok c.in_ok-state.state) c.in_ok-inner.ensures c.in_ok-at.ensures c.in_ok-state.ensures in
+    (c.in_ok-new.ensures ∙ done.0, done.1)
+
+pub items-get-before-requires : goal.items-get-before-requires
+items-get-before-requires g t c =
+    let m = c.args.self.now.walk.manifest.now in
+    let B = g.R.Recorded.answers c.args.self.now.before.now in
+    let scopes = c.args.self.now.walk.globals.now in
+    let low : c.loop-item.i < length c.args.items.now = omega (arith, c.loop-item.invariant.counted, ap length c.as_slice-item-items.ensures, c.loop-item-test.true) in
+    numbered_low (item_made m B scopes (calls m B scopes c.args.left) (prefix_of c.args.of) c.args.place.now c.args.scope.now c.args.call.now) c.args.items.now c.loop-item.i c.args.old.now c.requires.was low
+
+pub items-item-requires : goal.items-item-requires
+items-item-requires g t c κs within =
+    let m = c.args.self.now.walk.manifest.now in
+    let B = g.R.Recorded.answers c.args.self.now.before.now in
+    let scopes = c.args.self.now.walk.globals.now in
+    let theirs = item_made m B scopes (calls m B scopes c.args.left) (prefix_of c.args.of) c.args.place.now c.args.scope.now c.args.call.now in
+    let parts = turn c.as_slice-item-items.result.now c.args.items.now c.loop-item.i c.loop-item.item-index c.item-item.result c.as_slice-item-items.ensures c.loop-item.invariant.counted c.loop-item-test.true c.item-item.is in
+    let was = numbered_here theirs c.args.items.now (drop (c.loop-item.i + 1) c.args.items.now) c.loop-item.i c.item-item.result c.args.old.now c.get-before.result.now c.requires.was parts c.get-before.ensures in
+    let whole : IsTrue (is_whole c.item-item.result) = search rules in
+    (omega arith, (within, (c.requires.ready, (whole, (c.requires.shallow, (c.requires.same, was))))))
+
+pub items-returns-in_err-state : goal.items-returns-in_err-state
+items-returns-in_err-state g t c =
+    let m = c.args.self.now.walk.manifest.now in
+    let A = g.R.Recorded.answers c.args.self.now.walk.recorded.now in
+    let scopes = c.args.self.now.walk.globals.now in
+    let made = item_made m A scopes (calls m A scopes c.args.left) (prefix_of c.args.of) c.args.place.now c.args.scope.now c.args.call.now in
+    let parts = turn c.as_slice-item-items.result.now c.args.items.now c.loop-item.i c.loop-item.item-index c.item-item.result c.as_slice-item-items.ensures c.loop-item.invariant.counted c.loop-item-test.true c.item-item.is in
+    by_err (λ r. GivesRow c.args.room.now c.item.new.room r (numbered made 0 c.args.items.now)) c.from_residual.result c.in_err-state.field-0.0 c.from_residual.ensures.1
+    (row_stops made c.loop-item.states c.loop-item.i c.item-item.result (drop (c.loop-item.i + 1) c.args.items.now) (drop c.loop-item.i c.args.items.now) (numbered made 0 c.args.items.now) c.args.room.now c.loop-item.room c.item.new.room c.in_err-state.field-0.0 parts c.loop-item.invariant.told c.loop-item.invariant.room c.in_err-state.ensures)
+
+pub items-overflow_add-i : goal.items-overflow_add-i
+items-overflow_add-i g t c =
+    let small = few_in_row c.loop-item.states c.loop-item.i c.loop-item.room c.args.room.now c.loop-item.invariant.long c.loop-item.invariant.room c.requires.few in
+    omega (arith, small)
+
+pub items-loop-item-preserved : goal.items-loop-item-preserved
+items-loop-item-preserved g t c =
+    let m = c.args.self.now.walk.manifest.now in
+    let A = g.R.Recorded.answers c.args.self.now.walk.recorded.now in
+    let scopes = c.args.self.now.walk.globals.now in
+    let made = item_made m A scopes (calls m A scopes c.args.left) (prefix_of c.args.of) c.args.place.now c.args.scope.now c.args.call.now in
+    let parts = turn c.as_slice-item-items.result.now c.args.items.now c.loop-item.i c.loop-item.item-index c.item-item.result c.as_slice-item-items.ensures c.loop-item.invariant.counted c.loop-item-test.true c.item-item.is in
+    let given = c.in_ok-state.ensures in
+    record {
+      counted = omega (arith, c.loop-item.invariant.counted);
+      told = ap (λ ms. ms ++ numbered made (c.loop-item.i + 1) (drop (c.loop-item.i + 1) c.args.items.now)) c.in_ok-push.ensures.ok ∙ row_next made c.loop-item.states c.loop-item.i c.item-item.result c.in_ok-state.state (drop (c.loop-item.i + 1) c.args.items.now) (drop c.loop-item.i c.args.items.now) (numbered made 0 c.args.items.now) parts given.0 c.loop-item.invariant.told;
+      long = ap (λ ms. length ms) c.in_ok-push.ensures.ok ∙ long_more c.loop-item.states c.in_ok-state.state c.loop-item.i c.loop-item.invariant.long;
+      room = ap (λ ms. c.item.new.room + count_row ms) c.in_ok-push.ensures.ok ∙ room_after c.loop-item.states c.in_ok-state.state (made c.loop-item.i c.item-item.result) c.args.room.now c.loop-item.room c.item.new.room c.loop-item.invariant.room given;
+    }
+
+-- ---- groups
+
+pub steps-groups-requires : goal.steps-groups-requires
+steps-groups-requires g t c κs within =
+    let m = c.args.self.now.walk.manifest.now in
+    let B = g.R.Recorded.answers c.args.self.now.before.now in
+    let scopes = c.args.self.now.walk.globals.now in
+    let was = c.in_ok-before.ensures ∙ groups_were (calls m B scopes c.args.left) c.args.place c.args.scope.now c.args.declared.now c.args.groups.now c.args.old.now c.requires.was in
+    (omega arith, (within, (c.requires.ready, (c.requires.named, (c.in_ok-take.ensures.few, (c.requires.shallow, (c.requires.same, was)))))))
+
+pub steps-returns : goal.steps-returns
+steps-returns g t c =
+    let m = c.args.self.now.walk.manifest.now in
+    let A = g.R.Recorded.answers c.args.self.now.walk.recorded.now in
+    let scopes = c.args.self.now.walk.globals.now in
+    let called = calls m A scopes c.args.left in
+    steps_done called c.args.place c.args.scope.now c.args.declared.now c.args.groups.now c.in_ok-row.row c.in_ok-steps_over.field-0 c.args.room.now c.take.new.self c.groups.new.room c.in_ok-take.ensures.takes c.in_ok-row.ensures c.in_ok-steps_over.ensures
+
+pub groups-group_at-requires : goal.groups-group_at-requires
+groups-group_at-requires g t c κs within =
+    let m = c.args.self.now.walk.manifest.now in
+    let A = g.R.Recorded.answers c.args.self.now.walk.recorded.now in
+    let B = g.R.Recorded.answers c.args.self.now.before.now in
+    let scopes = c.args.self.now.walk.globals.now in
+    let parts = turn c.as_slice-calls-items.result.now c.args.groups.now c.loop-calls.i c.loop-calls.calls-index c.calls-item.result c.as_slice-calls-items.ensures c.loop-calls.invariant.counted c.loop-calls-test.true c.calls-item.is in
+    let named : All IsNamed c.calls-item.result = search rules in (
+      omega arith,
+      (
+        within,
+        (
+          c.requires.ready,
+          (
+            named,
+            (
+              c.requires.shallow,
+              (
+                c.requires.same,
+                (λ le. group_stood m A B scopes c.args.left c.args.place.now c.loop-calls.row.scope c.loop-calls.i c.calls-item.result (drop c.loop-calls.i c.args.groups.now) (drop (c.loop-calls.i + 1) c.args.groups.now) c.args.old.now (c.loop-calls.invariant.as_before le) parts),
+              ),
+            ),
+          ),
+        ),
+      ),
+    )
+
+pub groups-returns-in_err-group : goal.groups-returns-in_err-group
+groups-returns-in_err-group g t c =
+    let m = c.args.self.now.walk.manifest.now in
+    let A = g.R.Recorded.answers c.args.self.now.walk.recorded.now in
+    let scopes = c.args.self.now.walk.globals.now in
+    let called = calls m A scopes c.args.left in
+    let parts = turn c.as_slice-calls-items.result.now c.args.groups.now c.loop-calls.i c.loop-calls.calls-index c.calls-item.result c.as_slice-calls-items.ensures c.loop-calls.invariant.counted c.loop-calls-test.true c.calls-item.is in
+    by_err (λ r. GivesGroups c.args.room.now c.group_at.new.room r (groups_from called c.args.place.now 0 c.args.scope.now c.args.groups.now)) c.from_residual-in_err-group.result c.in_err-group.field-0.0 c.from_residual-in_err-group.ensures.1
+    (groups_fail called (alike m A scopes c.args.left) c.args.place.now c.args.scope.now c.args.groups.now c.loop-calls.row.states c.loop-calls.i c.loop-calls.row.scope c.calls-item.result (drop c.loop-calls.i c.args.groups.now) parts c.loop-calls.invariant.told (group_place c.args.place.now c.loop-calls.i) c.args.room.now c.loop-calls.room c.group_at.new.room c.in_err-group.field-0.0 refl c.loop-calls.invariant.room c.in_err-group.ensures)
+
+pub groups-returns-then-not-goes_on : goal.groups-returns-then-not-goes_on
+groups-returns-then-not-goes_on g t c =
+    let m = c.args.self.now.walk.manifest.now in
+    let A = g.R.Recorded.answers c.args.self.now.walk.recorded.now in
+    let scopes = c.args.self.now.walk.globals.now in
+    let called = calls m A scopes c.args.left in
+    let parts = turn c.as_slice-calls-items.result.now c.args.groups.now c.loop-calls.i c.loop-calls.calls-index c.calls-item.result c.as_slice-calls-items.ensures c.loop-calls.invariant.counted c.loop-calls-test.true c.calls-item.is in
+    groups_stop called (alike m A scopes c.args.left) c.args.place.now c.args.scope.now c.args.groups.now c.loop-calls.row.states c.loop-calls.i c.loop-calls.row.scope c.calls-item.result (drop c.loop-calls.i c.args.groups.now) parts c.loop-calls.invariant.told (group_place c.args.place.now c.loop-calls.i) refl c.in_ok-group.group c.add.new.self c.in_ok-add.ensures c.in_ok-group.ensures.0 c.has_succeeded-goes_on.result (sym c.has_succeeded-goes_on.ensures) c.if-not-goes_on.true c.args.room.now c.loop-calls.room c.group_at.new.room c.loop-calls.invariant.room c.in_ok-group.ensures.1
+
+pub groups-overflow_add-i : goal.groups-overflow_add-i
+groups-overflow_add-i g t c =
+    let small = few_in_row c.loop-calls.row.states c.loop-calls.i c.loop-calls.room c.args.room.now c.loop-calls.invariant.long c.loop-calls.invariant.room c.requires.few in
+    omega (arith, small)
+
+pub groups-loop-calls-preserved : goal.groups-loop-calls-preserved
+groups-loop-calls-preserved g t c =
+    let m = c.args.self.now.walk.manifest.now in
+    let A = g.R.Recorded.answers c.args.self.now.walk.recorded.now in
+    let B = g.R.Recorded.answers c.args.self.now.before.now in
+    let scopes = c.args.self.now.walk.globals.now in
+    let called = calls m A scopes c.args.left in
+    let here = group_place c.args.place.now c.loop-calls.i in
+    let parts = turn c.as_slice-calls-items.result.now c.args.groups.now c.loop-calls.i c.loop-calls.calls-index c.calls-item.result c.as_slice-calls-items.ensures c.loop-calls.invariant.counted c.loop-calls-test.true c.calls-item.is in
+    record {
+      counted = omega (arith, c.loop-calls.invariant.counted);
+      told = groups_next called (alike m A scopes c.args.left) c.args.place.now c.args.scope.now c.args.groups.now c.loop-calls.row.states c.loop-calls.i c.loop-calls.row.scope c.calls-item.result (drop c.loop-calls.i c.args.groups.now) parts c.loop-calls.invariant.told here refl c.in_ok-group.group c.add.new.self c.in_ok-add.ensures c.in_ok-group.ensures.0 c.has_succeeded-goes_on.result (sym c.has_succeeded-goes_on.ensures) c.if-not-goes_on.false;
+      long = ap (λ r. length r.states) c.in_ok-add.ensures ∙ long_more c.loop-calls.row.states c.in_ok-group.group.state c.loop-calls.i c.loop-calls.invariant.long;
+      room = groups_room called (alike m A scopes c.args.left) c.args.place.now c.args.scope.now c.args.groups.now c.loop-calls.row.states c.loop-calls.i c.loop-calls.row.scope c.calls-item.result (drop c.loop-calls.i c.args.groups.now) parts c.loop-calls.invariant.told here refl c.in_ok-group.group c.add.new.self c.in_ok-add.ensures c.in_ok-group.ensures.0 c.has_succeeded-goes_on.result (sym c.has_succeeded-goes_on.ensures) c.args.room.now c.loop-calls.room c.group_at.new.room c.loop-calls.invariant.room c.in_ok-group.ensures.1;
+      as_before = λ le.
+          let low : c.loop-calls.i < c.args.j = omega (arith, le) in
+          let held : c.loop-calls.i ≤ c.args.j = omega (arith, le) in
+          groups_stood m A B scopes c.args.left c.args.place.now c.loop-calls.row.scope c.loop-calls.i c.args.j c.calls-item.result (drop c.loop-calls.i c.args.groups.now) (drop (c.loop-calls.i + 1) c.args.groups.now) c.args.rest.now c.args.old.now c.in_ok-group.group c.add.new.self c.has_succeeded-goes_on.result c.requires.same low (c.loop-calls.invariant.as_before held) parts c.in_ok-group.ensures.0 (ap (λ r. r.scope) c.in_ok-add.ensures) (sym c.has_succeeded-goes_on.ensures) c.if-not-goes_on.false;
+    }
+
+pub group_at-returns-then-i-j : goal.group_at-returns-then-i-j
+group_at-returns-then-i-j g t c =
+    let m = c.args.self.now.walk.manifest.now in
+    let A = g.R.Recorded.answers c.args.self.now.walk.recorded.now in
+    let B = g.R.Recorded.answers c.args.self.now.before.now in
+    let scopes = c.args.self.now.walk.globals.now in
+    let here = group_place c.args.place.now c.args.i in
+    let mine = members_at (calls m A scopes c.args.left) c.args.place.now c.args.i c.args.scope.now c.args.calls.now in
+    let theirs = members_at (calls m B scopes c.args.left) c.args.place.now c.args.i c.args.scope.now c.args.calls.now in
+    let held : c.args.i ≤ c.args.j = omega (arith, c.if-i-j.true) in
+    let was : c.get.result.now ≡ group_made here theirs = some_same c.get.result.now (group_made here theirs) (slice_get c.args.old.now c.args.i) c.get.ensures (c.requires.was held) in
+    let stays : theirs ≡ mine = group_beside m A B scopes c.args.left c.args.place.now c.args.i c.args.j c.args.scope.now c.args.calls.now c.args.rest.now c.requires.same c.if-i-j.true in
+    c.shared_group.ensures here mine (members_calls (calls m A scopes c.args.left) here c.args.scope.now 0 c.args.calls.now) (was ∙ ap (λ (ms : List Member). group_made here ms) stays)
+
+pub group_at-get-requires-2 : goal.group_at-get-requires-2
+group_at-get-requires-2 g t c =
+    let m = c.args.self.now.walk.manifest.now in
+    let B = g.R.Recorded.answers c.args.self.now.before.now in
+    let theirs = members_at (calls m B c.args.self.now.walk.globals.now c.args.left) c.args.place.now c.args.i c.args.scope.now c.args.calls.now in
+    is_there c.args.old.now c.args.i (group_made (group_place c.args.place.now c.args.i) theirs) (c.requires.was c.if-j-i.false)
+
+pub group_at-group-requires-2 : goal.group_at-group-requires-2
+group_at-group-requires-2 g t c κs within =
+    let m = c.args.self.now.walk.manifest.now in
+    let A = g.R.Recorded.answers c.args.self.now.walk.recorded.now in
+    let B = g.R.Recorded.answers c.args.self.now.before.now in
+    let other = calls m B c.args.self.now.walk.globals.now c.args.left in
+    let here = group_place c.args.place.now c.args.i in
+    let theirs = members_at other c.args.place.now c.args.i c.args.scope.now c.args.calls.now in
+    let at = c.in_ok-at.ensures in
+    let it : c.args.j ≡ c.args.i = omega (arith, c.if-i-j.false, c.if-j-i.false) in
+    let same = same_below A B c.args.place.now.sels c.in_ok-at.at.sels (Group c.args.i) (Group c.args.j ∷ c.args.rest.now) c.args.rest.now c.requires.same (ap (λ (n : ℕ). Group n ∷ c.args.rest.now) it) (ap (λ (p : Place). p.sels) at) in
+    let stood : c.get-2.result.now ≡ group_made here theirs = some_same c.get-2.result.now (group_made here theirs) (slice_get c.args.old.now c.args.i) c.get-2.ensures (c.requires.was c.if-j-i.false) in
+    let was = c.state-before.ensures ∙ stood ∙ ap (λ (p : Place). group_made p (members other p c.args.scope.now c.args.calls.now)) (sym at) in
+    let depth : c.in_ok-at.at.depth ≡ suc c.args.place.now.depth = ap (λ (p : Place). p.depth) at in
+    (omega arith, (within, (c.requires.ready, (c.requires.named, (omega (arith, depth, c.requires.shallow), (same, was))))))
+
+pub group-members-requires : goal.group-members-requires
+group-members-requires g t c κs within =
+    let m = c.args.self.now.walk.manifest.now in
+    let B = g.R.Recorded.answers c.args.self.now.before.now in
+    let scopes = c.args.self.now.walk.globals.now in
+    let was = c.in_ok-before.ensures ∙ group_were c.args.place (members (calls m B scopes c.args.left) c.args.place c.args.scope.now c.args.calls.now) c.args.old.now c.requires.was in
+    (omega arith, (within, (c.requires.ready, (c.requires.named, (c.in_ok-take.ensures.few, (omega (arith, c.requires.shallow), (c.requires.same, was)))))))
+
+pub group-returns : goal.group-returns
+group-returns g t c =
+    let m = c.args.self.now.walk.manifest.now in
+    let A = g.R.Recorded.answers c.args.self.now.walk.recorded.now in
+    let scopes = c.args.self.now.walk.globals.now in
+    let called = calls m A scopes c.args.left in
+    let ms = members called c.args.place c.args.scope.now c.args.calls.now in
+    let states = c.in_ok-states.ensures in
+    let seen = c.in_ok-group_over.ensures ms (members_calls called c.args.place c.args.scope.now 0 c.args.calls.now) (sym states.0) in
+    group_done c.args.room.now c.take.new.self c.members.new.room c.args.place ms c.in_ok-states.states c.in_ok-group_over.field-0 c.in_ok-take.ensures.takes states seen
+
+-- ---- members
+
+pub member-returns-in_default : goal.member-returns-in_default
+member-returns-in_default g t c =
+    let m = c.args.self.now.walk.manifest.now in
+    let A = g.R.Recorded.answers c.args.self.now.walk.recorded.now in
+    let B = g.R.Recorded.answers c.args.self.now.before.now in
+    let scopes = c.args.self.now.walk.globals.now in
+    gives_as c.args.room.now c.shared.new.room c.shared.result c.args.old.now (calls m A scopes c.args.left (codes "steps.") (member_place c.args.group.now c.args.j c.args.call.now) c.args.scope.now c.args.call.now)
+    (c.requires.was ∙ member_beside m A B scopes c.args.left (codes "steps.") c.args.group.now c.args.scope.now c.args.call.now c.args.j c.args.rest.now c.requires.same c.in_default.ensures.off)
+    c.shared.ensures
+
+pub members-get-before-requires : goal.members-get-before-requires
+members-get-before-requires g t c =
+    let m = c.args.self.now.walk.manifest.now in
+    let B = g.R.Recorded.answers c.args.self.now.before.now in
+    let scopes = c.args.self.now.walk.globals.now in
+    let called = calls m B scopes c.args.left in
+    let low : c.loop-call.j < length c.args.calls.now = omega (arith, c.loop-call.invariant.counted, ap length c.as_slice-call-items.ensures, c.loop-call-test.true) in
+    numbered_low (member_at called c.args.group.now c.args.scope.now) c.args.calls.now c.loop-call.j c.args.old.now (c.requires.was ∙ members_row called c.args.group.now c.args.scope.now 0 c.args.calls.now) low
+
+pub members-member-requires : goal.members-member-requires
+members-member-requires g t c κs within =
+    let m = c.args.self.now.walk.manifest.now in
+    let B = g.R.Recorded.answers c.args.self.now.before.now in
+    let scopes = c.args.self.now.walk.globals.now in
+    let called = calls m B scopes c.args.left in
+    let parts = turn c.as_slice-call-items.result.now c.args.calls.now c.loop-call.j c.loop-call.call-index c.call-item.result c.as_slice-call-items.ensures c.loop-call.invariant.counted c.loop-call-test.true c.call-item.is in
+    let was = numbered_here (member_at called c.args.group.now c.args.scope.now) c.args.calls.now (drop (c.loop-call.j + 1) c.args.calls.now) c.loop-call.j c.call-item.result c.args.old.now c.get-before.result.now (c.requires.was ∙ members_row called c.args.group.now c.args.scope.now 0 c.args.calls.now) parts c.get-before.ensures in
+    let named : IsNamed c.call-item.result = search rules in
+    (omega arith, (within, (c.requires.ready, (named, (c.requires.shallow, (c.requires.same, was))))))
+
+pub members-returns-in_err-state : goal.members-returns-in_err-state
+members-returns-in_err-state g t c =
+    let m = c.args.self.now.walk.manifest.now in
+    let A = g.R.Recorded.answers c.args.self.now.walk.recorded.now in
+    let scopes = c.args.self.now.walk.globals.now in
+    let called = calls m A scopes c.args.left in
+    let made = member_at called c.args.group.now c.args.scope.now in
+    let parts = turn c.as_slice-call-items.result.now c.args.calls.now c.loop-call.j c.loop-call.call-index c.call-item.result c.as_slice-call-items.ensures c.loop-call.invariant.counted c.loop-call-test.true c.call-item.is in
+    let row = members_row called c.args.group.now c.args.scope.now 0 c.args.calls.now in
+    by_err (λ r. GivesRow c.args.room.now c.member.new.room r (makings (members called c.args.group.now c.args.scope.now c.args.calls.now))) c.from_residual.result c.in_err-state.field-0.0 c.from_residual.ensures.1
+    (subst (λ ms. GivesRow c.args.room.now c.member.new.room (Err c.in_err-state.field-0.0) ms) (sym row)
+    (row_stops made c.loop-call.states c.loop-call.j c.call-item.result (drop (c.loop-call.j + 1) c.args.calls.now) (drop c.loop-call.j c.args.calls.now) (numbered made 0 c.args.calls.now) c.args.room.now c.loop-call.room c.member.new.room c.in_err-state.field-0.0 parts c.loop-call.invariant.told c.loop-call.invariant.room c.in_err-state.ensures))
+
+pub members-overflow_add-j : goal.members-overflow_add-j
+members-overflow_add-j g t c =
+    let small = few_in_row c.loop-call.states c.loop-call.j c.loop-call.room c.args.room.now c.loop-call.invariant.long c.loop-call.invariant.room c.requires.few in
+    omega (arith, small)
+
+pub members-loop-call-preserved : goal.members-loop-call-preserved
+members-loop-call-preserved g t c =
+    let m = c.args.self.now.walk.manifest.now in
+    let A = g.R.Recorded.answers c.args.self.now.walk.recorded.now in
+    let scopes = c.args.self.now.walk.globals.now in
+    let called = calls m A scopes c.args.left in
+    let made = member_at called c.args.group.now c.args.scope.now in
+    let parts = turn c.as_slice-call-items.result.now c.args.calls.now c.loop-call.j c.loop-call.call-index c.call-item.result c.as_slice-call-items.ensures c.loop-call.invariant.counted c.loop-call-test.true c.call-item.is in
+    let given = c.in_ok-state.ensures in
+    record {
+      counted = omega (arith, c.loop-call.invariant.counted);
+      told = ap (λ ms. ms ++ numbered made (c.loop-call.j + 1) (drop (c.loop-call.j + 1) c.args.calls.now)) c.in_ok-push.ensures.ok ∙ row_next made c.loop-call.states c.loop-call.j c.call-item.result c.in_ok-state.state (drop (c.loop-call.j + 1) c.args.calls.now) (drop c.loop-call.j c.args.calls.now) (numbered made 0 c.args.calls.now) parts given.0 c.loop-call.invariant.told;
+      long = ap (λ ms. length ms) c.in_ok-push.ensures.ok ∙ long_more c.loop-call.states c.in_ok-state.state c.loop-call.j c.loop-call.invariant.long;
+      room = ap (λ ms. c.member.new.room + count_row ms) c.in_ok-push.ensures.ok ∙ room_after c.loop-call.states c.in_ok-state.state (made c.loop-call.j c.call-item.result) c.args.room.now c.loop-call.room c.member.new.room c.loop-call.invariant.room given;
+    }
+
+pub members-returns : goal.members-returns
+members-returns g t c =
+    let m = c.args.self.now.walk.manifest.now in
+    let A = g.R.Recorded.answers c.args.self.now.walk.recorded.now in
+    let scopes = c.args.self.now.walk.globals.now in
+    let called = calls m A scopes c.args.left in
+    let made = member_at called c.args.group.now c.args.scope.now in
+    let past : length c.args.calls.now ≤ c.loop-call.j = omega (arith, c.loop-call.invariant.counted, ap length c.as_slice-call-items.ensures, c.loop-call-test.false) in
+    let row = members_row called c.args.group.now c.args.scope.now 0 c.args.calls.now in
+    subst (λ ms. GivesRow c.args.room.now c.loop-call.room (Ok c.loop-call.states) ms) (sym row)
+    (row_done made c.loop-call.states c.loop-call.j c.args.calls.now c.args.room.now c.loop-call.room past c.loop-call.invariant.told c.loop-call.invariant.room)

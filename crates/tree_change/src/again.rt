@@ -1,0 +1,700 @@
+//! The walk that is made again once one fact more is recorded: it goes down the path of the fact alone. What stands beside the
+//! path is shared with what was made before, and what begins anew is made by the walk over all.
+
+ghost use Rattle.std.specs.Prelude.{◌≡◌, ◌+◌, ◌++◌, ◌∷◌, ◌*◌, ◌<◌, ◌≤◌, All, IsTrue, Ok, Some, codes, option_copied, slice_get};
+ghost use Rattle.base_types.specs.Limits.{most_nodes};
+ghost use Rattle.tree_types.specs.declared.path.Sel.TheVariants as sels;
+ghost use Rattle.fanout.specs.Items.{is_whole};
+ghost use Rattle.meaning.specs.Calls as meant;
+ghost use Rattle.meaning.specs.Steps as steps;
+ghost use Rattle.meaning.specs.Trees as trees;
+ghost use Rattle.locality.specs.Answered.{SameBut};
+ghost use Rattle.tree_state.specs.Counting.{Gives};
+ghost use Rattle.tree_walk.specs.Index.{IsReady};
+ghost use Rattle.tree_walk.specs.Walkable.{IsNamed, AreNamed, IsWalkable};
+ghost use Rattle.tree_walk.specs.Walking.{GivesRow, GivesGroups, GivesGroup, hook_depth, label_of, prefix_of};
+ghost use Rattle.tree_change.specs.Entered.{IsRunning};
+
+use crate::leaf::is_running;
+use crate::share::{behind, group_below, shared, shared_group};
+use base_types::{List, Text, TryCopy};
+use call_nodes::{copy_place, group_place, item_place, member_place};
+use call_texts::{item_scope, loop_items, said, template_scope};
+use fanout::Items;
+use leaf_states::{lone, saving};
+use meaning::Place;
+use recorded::Recorded;
+use scopes::Scope;
+use tree_state::{Room, Shared, State, TreeRefused};
+use tree_types::{Kind, Note, Phase, Sel};
+use tree_walk::{
+    After, FURTHER_DEPTHS, Group, Listed, Positions, Row, Walk, group_over, steps_over, top_state,
+};
+use wf_manifest::{
+    Arguments, Call, Group as Calls, Groups, Json, Manifest, Memoize, OutputDecls, Template,
+};
+
+// A walk over a manifest and what is recorded of it together with a fact, and what was recorded before the fact.
+struct Again<'a, R> {
+    walk: Walk<'a, R>,
+    before: &'a R,
+}
+
+impl<R> Drop for Again<'_, R> {
+    fn drop(self) {
+        let Again { walk: _, before: _ } = self;
+    }
+}
+
+/// What the entrypoint makes once one fact more is recorded, by what it made before it: what is not on the way to the fact
+/// is shared. `before` is what was recorded without the fact, and `rest` what the path of the fact has behind the
+/// entrypoint's node.
+pub fn made_again<R: Recorded>(
+    manifest: &Manifest,
+    positions: &Positions,
+    globals: &Scope,
+    recorded: &R,
+    before: &R,
+    place: Place,
+    template: &Text,
+    old: &State,
+    rest: &[Sel],
+    room: &mut Room,
+) -> Result<State, TreeRefused>
+    requires ready { IsReady manifest.now positions.now }
+    requires shallow { place.depth ≡ 1 }
+    requires same { SameBut (R.answers recorded.now) (R.answers before.now)
+        (place.sels ++ rest.now) }
+    requires old { old.now ≡ trees.top_call manifest.now (R.answers before.now)
+        globals.now place template.now }
+    ensures { Gives room.old room.new result
+        (trees.top_call manifest.now (R.answers recorded.now) globals.now place template.now) }
+{
+    if !is_running(old) {
+        return top_state(
+            manifest, positions, globals, recorded, place, template, room,
+        );
+    }
+    let walk = Walk {
+        manifest,
+        positions,
+        globals,
+        recorded,
+    };
+    let again = Again { walk, before };
+    let after = After {
+        of: Listed::Steps,
+        name: &manifest.name,
+        exit: None,
+    };
+    let given = &manifest.arguments;
+    again.called(
+        place,
+        globals,
+        template,
+        given,
+        after,
+        old,
+        rest,
+        FURTHER_DEPTHS,
+        room,
+    )
+}
+
+impl<R: Recorded> Again<'_, R> {
+    // A call with so many depths left, its own among them.
+    #[cycle(again)]
+    fn call(
+        &self,
+        of: Listed,
+        place: Place,
+        scope: &Scope,
+        call: &Call,
+        old: &State,
+        rest: &[Sel],
+        left: u32,
+        room: &mut Room,
+    ) -> Result<State, TreeRefused>
+        requires ready { IsReady self.now.walk.manifest.now self.now.walk.positions.now }
+        requires shallow { place.depth + 5 * left + 5 < 1000 }
+        requires same { let A = R.answers self.now.walk.recorded.now in
+            SameBut A (R.answers self.now.before.now) (place.sels ++ rest.now) }
+        requires was { let m = self.now.walk.manifest.now in
+            let B = R.answers self.now.before.now in
+            let g = self.now.walk.globals.now in
+            old.now ≡ meant.calls m B g left (prefix_of of) place scope.now call.now }
+        ensures { let m = self.now.walk.manifest.now in
+            let A = R.answers self.now.walk.recorded.now in
+            let g = self.now.walk.globals.now in
+            Gives room.old room.new result
+            (meant.calls m A g left (prefix_of of) place scope.now call.now) }
+    {
+        if left == 0 {
+            return self.walk.call(of, place, scope, call, left, room);
+        }
+        if !is_running(old) {
+            return self.walk.call(of, place, scope, call, left, room);
+        }
+        let Some(each) = &call.each else {
+            return self.one(of, place, scope, call, old, rest, left - 1, room);
+        };
+        match loop_items(self.walk.alloc(), each, scope) {
+            Ok(items) => self.looped(of, place, scope, call, &items, old, rest, left - 1, room),
+            Err(_) => self.walk.call(of, place, scope, call, left, room),
+        }
+    }
+
+    #[cycle(again)]
+    fn looped(
+        &self,
+        of: Listed,
+        place: Place,
+        scope: &Scope,
+        call: &Call,
+        items: &Items,
+        old: &State,
+        rest: &[Sel],
+        left: u32,
+        room: &mut Room,
+    ) -> Result<State, TreeRefused>
+        requires ready { IsReady self.now.walk.manifest.now self.now.walk.positions.now }
+        requires whole { All (λ item. IsTrue (is_whole item)) items.now }
+        requires shallow { place.depth + 5 * left + 10 < 1000 }
+        requires same { let A = R.answers self.now.walk.recorded.now in
+            SameBut A (R.answers self.now.before.now) (place.sels ++ rest.now) }
+        requires was { let m = self.now.walk.manifest.now in
+            let B = R.answers self.now.before.now in
+            let g = self.now.walk.globals.now in
+            old.now ≡ meant.looped m B g (meant.calls m B g left) (prefix_of of) place scope.now call.now (Ok items.now) }
+        ensures { let m = self.now.walk.manifest.now in
+            let A = R.answers self.now.walk.recorded.now in
+            let g = self.now.walk.globals.now in
+            Gives room.old room.new result
+            (meant.looped m A g (meant.calls m A g left) (prefix_of of) place scope.now call.now (Ok items.now)) }
+    {
+        if items.is_empty() {
+            return lone(place, Kind::Skipped, Phase::Skipped, Note::NoItems, room);
+        }
+        room.take()?;
+        let before = old.calls()?;
+        let states = self.items(of, &place, scope, call, items, &before, rest, left, room)?;
+        Ok(self.walk.loop_of(place, call, states)?)
+    }
+
+    #[cycle(again)]
+    fn items(
+        &self,
+        of: Listed,
+        place: &Place,
+        scope: &Scope,
+        call: &Call,
+        items: &Items,
+        old: &List<Shared>,
+        rest: &[Sel],
+        left: u32,
+        room: &mut Room,
+    ) -> Result<List<Shared>, TreeRefused>
+        requires ready { IsReady self.now.walk.manifest.now self.now.walk.positions.now }
+        requires whole { All (λ item. IsTrue (is_whole item)) items.now }
+        requires few { room.now ≤ most_nodes }
+        requires shallow { place.now.depth + 5 * left + 10 < 1000 }
+        requires same { let A = R.answers self.now.walk.recorded.now in
+            SameBut A (R.answers self.now.before.now) (place.now.sels ++ rest.now) }
+        requires was { let m = self.now.walk.manifest.now in
+            let B = R.answers self.now.before.now in
+            let g = self.now.walk.globals.now in
+            old.now ≡ meant.items_made m B g (meant.calls m B g left) (prefix_of of) place.now scope.now call.now items.now }
+        ensures { let m = self.now.walk.manifest.now in
+            let A = R.answers self.now.walk.recorded.now in
+            let g = self.now.walk.globals.now in
+            GivesRow room.old room.new result
+            (meant.items_made m A g (meant.calls m A g left) (prefix_of of) place.now scope.now call.now items.now) }
+    {
+        let mut states = List::new(self.walk.alloc());
+        let mut i: u32 = 0;
+        for item in items.as_slice() {
+            let before = old.get(i as usize);
+            let state = self.item(of, place, scope, call, i, item, before, rest, left, room)?;
+            states.push(state)?;
+            i += 1;
+        }
+        Ok(states)
+    }
+
+    // An item of a looped call, which is shared where the path does not go down into it.
+    #[cycle(again)]
+    fn item(
+        &self,
+        of: Listed,
+        place: &Place,
+        scope: &Scope,
+        call: &Call,
+        i: u32,
+        item: &Json,
+        old: &Shared,
+        rest: &[Sel],
+        left: u32,
+        room: &mut Room,
+    ) -> Result<Shared, TreeRefused>
+        requires ready { IsReady self.now.walk.manifest.now self.now.walk.positions.now }
+        requires whole { IsTrue (is_whole item.now) }
+        requires shallow { place.now.depth + 5 * left + 10 < 1000 }
+        requires same { let A = R.answers self.now.walk.recorded.now in
+            SameBut A (R.answers self.now.before.now) (place.now.sels ++ rest.now) }
+        requires was { let m = self.now.walk.manifest.now in
+            let B = R.answers self.now.before.now in
+            let g = self.now.walk.globals.now in
+            old.now ≡ meant.item_made m B g (meant.calls m B g left) (prefix_of of) place.now scope.now call.now i item.now }
+        ensures { let m = self.now.walk.manifest.now in
+            let A = R.answers self.now.walk.recorded.now in
+            let g = self.now.walk.globals.now in
+            Gives room.old room.new result
+            (meant.item_made m A g (meant.calls m A g left) (prefix_of of) place.now scope.now call.now i item.now) }
+    {
+        let Some(others) = behind(rest, Sel::Item(i)) else {
+            return shared(old, room);
+        };
+        let inner = item_scope(self.walk.alloc(), scope, item)?;
+        let at = item_place(self.walk.alloc(), place, i, item)?;
+        let state = self.one(of, at, &inner, call, old.state(), others, left, room)?;
+        Ok(Shared::new(state)?)
+    }
+
+    // One item of a call, or a call without a loop.
+    #[cycle(again)]
+    fn one(
+        &self,
+        of: Listed,
+        place: Place,
+        scope: &Scope,
+        call: &Call,
+        old: &State,
+        rest: &[Sel],
+        left: u32,
+        room: &mut Room,
+    ) -> Result<State, TreeRefused>
+        requires ready { IsReady self.now.walk.manifest.now self.now.walk.positions.now }
+        requires shallow { place.depth + 5 * left + 9 < 1000 }
+        requires same { let A = R.answers self.now.walk.recorded.now in
+            SameBut A (R.answers self.now.before.now) (place.sels ++ rest.now) }
+        requires was { let m = self.now.walk.manifest.now in
+            let B = R.answers self.now.before.now in
+            let g = self.now.walk.globals.now in
+            old.now ≡ meant.one_made m B g (meant.calls m B g left) (prefix_of of) place scope.now call.now }
+        ensures { let m = self.now.walk.manifest.now in
+            let A = R.answers self.now.walk.recorded.now in
+            let g = self.now.walk.globals.now in
+            Gives room.old room.new result
+            (meant.one_made m A g (meant.calls m A g left) (prefix_of of) place scope.now call.now) }
+    {
+        if !is_running(old) {
+            return self.walk.one(of, place, scope, call, left, room);
+        }
+        let after = After {
+            of,
+            name: &call.name,
+            exit: call.exit.as_ref(),
+        };
+        let given = &call.arguments;
+        self.called(
+            place,
+            scope,
+            &call.template,
+            given,
+            after,
+            old,
+            rest,
+            left,
+            room,
+        )
+    }
+
+    // A call of a template whose node ran, and what follows the template's node.
+    #[cycle(again)]
+    fn called(
+        &self,
+        place: Place,
+        scope: &Scope,
+        name: &Text,
+        given: &Arguments,
+        after: After<'_>,
+        old: &State,
+        rest: &[Sel],
+        left: u32,
+        room: &mut Room,
+    ) -> Result<State, TreeRefused>
+        requires ready { IsReady self.now.walk.manifest.now self.now.walk.positions.now }
+        requires shallow { place.depth + 5 * left + 8 + hook_depth after.exit < 1000 }
+        requires same { let A = R.answers self.now.walk.recorded.now in
+            SameBut A (R.answers self.now.before.now) (place.sels ++ rest.now) }
+        requires runs { IsRunning old.now }
+        requires was { let m = self.now.walk.manifest.now in
+            let B = R.answers self.now.before.now in
+            let g = self.now.walk.globals.now in
+            old.now ≡ meant.call_of_template m B g (meant.calls m B g left) place scope.now name.now given.now
+            (meant.hooked m B g (meant.calls m B g left) (label_of after) place scope.now (option_copied after.exit)) }
+        ensures { let m = self.now.walk.manifest.now in
+            let A = R.answers self.now.walk.recorded.now in
+            let g = self.now.walk.globals.now in
+            Gives room.old room.new result
+            (meant.call_of_template m A g (meant.calls m A g left) place scope.now name.now given.now
+            (meant.hooked m A g (meant.calls m A g left) (label_of after.entry) place scope.now (option_copied after.entry.exit))) }
+    {
+        let Some(template) = self.walk.template_of(name) else {
+            return self
+                .walk
+                .called(place, scope, name, given, after, left, room);
+        };
+        let globals = self.walk.globals;
+        match template_scope(self.walk.alloc(), globals, scope, given, &template.inputs) {
+            Ok(inner) => self.entered(place, scope, &inner, template, after, old, rest, left, room),
+            Err(_) => self
+                .walk
+                .called(place, scope, name, given, after, left, room),
+        }
+    }
+
+    #[cycle(again)]
+    fn entered(
+        &self,
+        place: Place,
+        scope: &Scope,
+        inner: &Scope,
+        template: &Template,
+        after: After<'_>,
+        old: &State,
+        rest: &[Sel],
+        left: u32,
+        room: &mut Room,
+    ) -> Result<State, TreeRefused>
+        requires ready { IsReady self.now.walk.manifest.now self.now.walk.positions.now }
+        requires walkable { IsWalkable template.now }
+        requires shallow { place.depth + 5 * left + 8 + hook_depth after.exit < 1000 }
+        requires same { let A = R.answers self.now.walk.recorded.now in
+            SameBut A (R.answers self.now.before.now) (place.sels ++ rest.now) }
+        requires runs { IsRunning old.now }
+        requires was { let m = self.now.walk.manifest.now in
+            let B = R.answers self.now.before.now in
+            let g = self.now.walk.globals.now in
+            old.now ≡ meant.template_made B (meant.calls m B g left) place inner.now template.now }
+        ensures { let m = self.now.walk.manifest.now in
+            let A = R.answers self.now.walk.recorded.now in
+            let g = self.now.walk.globals.now in
+            Gives room.old room.new result
+            (meant.hooked m A g (meant.calls m A g left) (label_of after.entry) place scope.now (option_copied after.entry.exit)
+            (meant.template_made A (meant.calls m A g left) place inner.now template.now)) }
+    {
+        let Some(hook) = after.exit else {
+            return self.template(place, inner, template, old, rest, left, room);
+        };
+        let at = copy_place(&place)?;
+        let state = self.template(place, inner, template, old, rest, left, room)?;
+        self.walk.hook(state, &at, scope, hook, after, left, room)
+    }
+
+    // A template's node that ran.
+    #[cycle(again)]
+    fn template(
+        &self,
+        place: Place,
+        scope: &Scope,
+        template: &Template,
+        old: &State,
+        rest: &[Sel],
+        left: u32,
+        room: &mut Room,
+    ) -> Result<State, TreeRefused>
+        requires ready { IsReady self.now.walk.manifest.now self.now.walk.positions.now }
+        requires walkable { IsWalkable template.now }
+        requires shallow { place.depth + 5 * left + 8 < 1000 }
+        requires same { let A = R.answers self.now.walk.recorded.now in
+            SameBut A (R.answers self.now.before.now) (place.sels ++ rest.now) }
+        requires runs { IsRunning old.now }
+        requires was { let m = self.now.walk.manifest.now in
+            let B = R.answers self.now.before.now in
+            let g = self.now.walk.globals.now in
+            old.now ≡ meant.template_made B (meant.calls m B g left) place scope.now template.now }
+        ensures { let m = self.now.walk.manifest.now in
+            let A = R.answers self.now.walk.recorded.now in
+            let g = self.now.walk.globals.now in
+            Gives room.old room.new result
+            (meant.template_made A (meant.calls m A g left) place scope.now template.now) }
+    {
+        let Some((groups, j, others)) = group_below(template, rest) else {
+            return self.walk.template(place, scope, template, left, room);
+        };
+        let declared = &template.outputs;
+        let Some(memoize) = &template.memoize else {
+            return self.steps(place, scope, declared, groups, old, j, others, left, room);
+        };
+        match said(&memoize.key, scope) {
+            Ok(key) => self.missed(
+                place, scope, declared, memoize, key, groups, old, j, others, left, room,
+            ),
+            Err(_) => self.walk.template(place, scope, template, left, room),
+        }
+    }
+
+    // A steps template whose cache had nothing.
+    #[cycle(again)]
+    fn missed(
+        &self,
+        place: Place,
+        scope: &Scope,
+        declared: &OutputDecls,
+        memoize: &Memoize,
+        key: Text,
+        groups: &Groups,
+        old: &State,
+        j: u32,
+        rest: &[Sel],
+        left: u32,
+        room: &mut Room,
+    ) -> Result<State, TreeRefused>
+        requires ready { IsReady self.now.walk.manifest.now self.now.walk.positions.now }
+        requires named { AreNamed groups.now }
+        requires shallow { place.depth + 5 * left + 8 < 1000 }
+        requires same { let A = R.answers self.now.walk.recorded.now in
+            SameBut A (R.answers self.now.before.now) (place.sels ++ sels.Group j ∷ rest.now) }
+        requires was { let m = self.now.walk.manifest.now in
+            let B = R.answers self.now.before.now in
+            let g = self.now.walk.globals.now in
+            old.now ≡ steps.steps_made (meant.calls m B g left) place scope.now declared.now groups.now }
+        ensures { let m = self.now.walk.manifest.now in
+            let A = R.answers self.now.walk.recorded.now in
+            let g = self.now.walk.globals.now in
+            Gives room.old room.new result (meant.saving place memoize.now key
+            (steps.steps_made (meant.calls m A g left) place scope.now declared.now groups.now)) }
+    {
+        let at = place.sels.copy()?;
+        let state = self.steps(place, scope, declared, groups, old, j, rest, left, room)?;
+        Ok(saving(state, at, memoize, key)?)
+    }
+
+    // A steps template, where the path goes down into its group `j`.
+    #[cycle(again)]
+    fn steps(
+        &self,
+        place: Place,
+        scope: &Scope,
+        declared: &OutputDecls,
+        groups: &Groups,
+        old: &State,
+        j: u32,
+        rest: &[Sel],
+        left: u32,
+        room: &mut Room,
+    ) -> Result<State, TreeRefused>
+        requires ready { IsReady self.now.walk.manifest.now self.now.walk.positions.now }
+        requires named { AreNamed groups.now }
+        requires shallow { place.depth + 5 * left + 8 < 1000 }
+        requires same { let A = R.answers self.now.walk.recorded.now in
+            SameBut A (R.answers self.now.before.now) (place.sels ++ sels.Group j ∷ rest.now) }
+        requires was { let m = self.now.walk.manifest.now in
+            let B = R.answers self.now.before.now in
+            let g = self.now.walk.globals.now in
+            old.now ≡ steps.steps_made (meant.calls m B g left) place scope.now declared.now groups.now }
+        ensures { let m = self.now.walk.manifest.now in
+            let A = R.answers self.now.walk.recorded.now in
+            let g = self.now.walk.globals.now in
+            Gives room.old room.new result
+            (steps.steps_made (meant.calls m A g left) place scope.now declared.now groups.now) }
+    {
+        room.take()?;
+        let before = old.calls()?;
+        let row = self.groups(&place, scope, groups, &before, j, rest, left, room)?;
+        Ok(steps_over(place, declared, row)?)
+    }
+
+    // The groups that exist.
+    #[cycle(again)]
+    fn groups(
+        &self,
+        place: &Place,
+        scope: &Scope,
+        groups: &Groups,
+        old: &List<Shared>,
+        j: u32,
+        rest: &[Sel],
+        left: u32,
+        room: &mut Room,
+    ) -> Result<Row, TreeRefused>
+        requires ready { IsReady self.now.walk.manifest.now self.now.walk.positions.now }
+        requires named { AreNamed groups.now }
+        requires few { room.now ≤ most_nodes }
+        requires shallow { place.now.depth + 5 * left + 8 < 1000 }
+        requires same { let A = R.answers self.now.walk.recorded.now in
+            SameBut A (R.answers self.now.before.now) (place.now.sels ++ sels.Group j ∷ rest.now) }
+        requires was { let m = self.now.walk.manifest.now in
+            let B = R.answers self.now.before.now in
+            let g = self.now.walk.globals.now in
+            old.now ≡ (steps.groups_from (meant.calls m B g left) place.now 0 scope.now groups.now).all }
+        ensures { let m = self.now.walk.manifest.now in
+            let A = R.answers self.now.walk.recorded.now in
+            let g = self.now.walk.globals.now in
+            GivesGroups room.old room.new result
+            (steps.groups_from (meant.calls m A g left) place.now 0 scope.now groups.now) }
+    {
+        let mut row = Row::new(self.walk.alloc(), scope)?;
+        let mut i: u32 = 0;
+        for calls in groups.as_slice() {
+            let group = self.group_at(place, i, &row.scope, calls, old, j, rest, left, room)?;
+            let goes_on = group.has_succeeded();
+            row.add(group)?;
+            if !goes_on {
+                return Ok(row);
+            }
+            i += 1;
+        }
+        Ok(row)
+    }
+
+    // Group `i`: shared in front of the one that the path goes down into, and made anew behind it.
+    #[cycle(again)]
+    fn group_at(
+        &self,
+        place: &Place,
+        i: u32,
+        scope: &Scope,
+        calls: &Calls,
+        old: &List<Shared>,
+        j: u32,
+        rest: &[Sel],
+        left: u32,
+        room: &mut Room,
+    ) -> Result<Group, TreeRefused>
+        requires ready { IsReady self.now.walk.manifest.now self.now.walk.positions.now }
+        requires named { All IsNamed calls.now }
+        requires shallow { place.now.depth + 5 * left + 8 < 1000 }
+        requires same { let A = R.answers self.now.walk.recorded.now in
+            SameBut A (R.answers self.now.before.now) (place.now.sels ++ sels.Group j ∷ rest.now) }
+        requires was { let m = self.now.walk.manifest.now in
+            let B = R.answers self.now.before.now in
+            let g = self.now.walk.globals.now in
+            i ≤ j → slice_get old.now i ≡ Some (steps.group_made (steps.group_place place.now i)
+            (steps.members_at (meant.calls m B g left) place.now i scope.now calls.now)) }
+        ensures { let m = self.now.walk.manifest.now in
+            let A = R.answers self.now.walk.recorded.now in
+            let g = self.now.walk.globals.now in
+            GivesGroup room.old room.new result (steps.group_place place.now i)
+            (steps.members_at (meant.calls m A g left) place.now i scope.now calls.now) }
+    {
+        if i < j {
+            return shared_group(calls, old.get(i as usize), room);
+        }
+        let at = group_place(place, i)?;
+        if j < i {
+            return self.walk.group(at, scope, calls, left, room);
+        }
+        let before = old.get(i as usize).state();
+        self.group(at, scope, calls, before, rest, left, room)
+    }
+
+    // A group of steps.
+    #[cycle(again)]
+    fn group(
+        &self,
+        place: Place,
+        scope: &Scope,
+        calls: &Calls,
+        old: &State,
+        rest: &[Sel],
+        left: u32,
+        room: &mut Room,
+    ) -> Result<Group, TreeRefused>
+        requires ready { IsReady self.now.walk.manifest.now self.now.walk.positions.now }
+        requires named { All IsNamed calls.now }
+        requires shallow { place.depth + 5 * left + 7 < 1000 }
+        requires same { let A = R.answers self.now.walk.recorded.now in
+            SameBut A (R.answers self.now.before.now) (place.sels ++ rest.now) }
+        requires was { let m = self.now.walk.manifest.now in
+            let B = R.answers self.now.before.now in
+            let g = self.now.walk.globals.now in
+            old.now ≡ steps.group_made place (steps.members (meant.calls m B g left) place scope.now calls.now) }
+        ensures { let m = self.now.walk.manifest.now in
+            let A = R.answers self.now.walk.recorded.now in
+            let g = self.now.walk.globals.now in
+            GivesGroup room.old room.new result place
+            (steps.members (meant.calls m A g left) place scope.now calls.now) }
+    {
+        room.take()?;
+        let before = old.calls()?;
+        let states = self.members(&place, scope, calls, &before, rest, left, room)?;
+        Ok(group_over(place, calls, states)?)
+    }
+
+    #[cycle(again)]
+    fn members(
+        &self,
+        group: &Place,
+        scope: &Scope,
+        calls: &Calls,
+        old: &List<Shared>,
+        rest: &[Sel],
+        left: u32,
+        room: &mut Room,
+    ) -> Result<List<Shared>, TreeRefused>
+        requires ready { IsReady self.now.walk.manifest.now self.now.walk.positions.now }
+        requires named { All IsNamed calls.now }
+        requires few { room.now ≤ most_nodes }
+        requires shallow { group.now.depth + 5 * left + 6 < 1000 }
+        requires same { let A = R.answers self.now.walk.recorded.now in
+            SameBut A (R.answers self.now.before.now) (group.now.sels ++ rest.now) }
+        requires was { let m = self.now.walk.manifest.now in
+            let B = R.answers self.now.before.now in
+            let g = self.now.walk.globals.now in
+            old.now ≡ steps.makings (steps.members (meant.calls m B g left) group.now scope.now calls.now) }
+        ensures { let m = self.now.walk.manifest.now in
+            let A = R.answers self.now.walk.recorded.now in
+            let g = self.now.walk.globals.now in
+            GivesRow room.old room.new result
+            (steps.makings (steps.members (meant.calls m A g left) group.now scope.now calls.now)) }
+    {
+        let mut states = List::new(self.walk.alloc());
+        let mut j: u32 = 0;
+        for call in calls.as_slice() {
+            let before = old.get(j as usize);
+            let state = self.member(group, j, scope, call, before, rest, left, room)?;
+            states.push(state)?;
+            j += 1;
+        }
+        Ok(states)
+    }
+
+    // A member of a group, which is shared where the path does not go down into it.
+    #[cycle(again)]
+    fn member(
+        &self,
+        group: &Place,
+        j: u32,
+        scope: &Scope,
+        call: &Call,
+        old: &Shared,
+        rest: &[Sel],
+        left: u32,
+        room: &mut Room,
+    ) -> Result<Shared, TreeRefused>
+        requires ready { IsReady self.now.walk.manifest.now self.now.walk.positions.now }
+        requires named { IsNamed call.now }
+        requires shallow { group.now.depth + 5 * left + 6 < 1000 }
+        requires same { let A = R.answers self.now.walk.recorded.now in
+            SameBut A (R.answers self.now.before.now) (group.now.sels ++ rest.now) }
+        requires was { let m = self.now.walk.manifest.now in
+            let B = R.answers self.now.before.now in
+            let g = self.now.walk.globals.now in
+            old.now ≡ meant.calls m B g left (codes "steps.") (steps.member_place group.now j call.now) scope.now call.now }
+        ensures { let m = self.now.walk.manifest.now in
+            let A = R.answers self.now.walk.recorded.now in
+            let g = self.now.walk.globals.now in
+            Gives room.old room.new result
+            (meant.calls m A g left (codes "steps.") (steps.member_place group.now j call.now) scope.now call.now) }
+    {
+        let Some(others) = behind(rest, Sel::Step(j)) else {
+            return shared(old, room);
+        };
+        let at = member_place(group, j, call)?;
+        let before = old.state();
+        let state = self.call(Listed::Steps, at, scope, call, before, others, left, room)?;
+        Ok(Shared::new(state)?)
+    }
+}
