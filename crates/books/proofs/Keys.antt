@@ -1,52 +1,23 @@
 -- Equal keys, and lists of requests whose keys differ.
-use Rattle.std.proofs.Common.{◌≡◌, ℕ, Bool, true, false, cond, ◌&&◌, ◌||◌, List, [], ◌∷◌, ◌++◌, Some, None, refl, sym, ◌∙◌, ap, ap₂, true≢false, eq-eqb, eqb-true, zero, suc, length, map, bytes_eq}
+use Rattle.std.proofs.Common.{◌≡◌, ℕ, Bool, true, false, cond, ◌&&◌, ◌||◌, List, [], ◌∷◌, ◌++◌, Some, None, refl, sym, ◌∙◌, ap, ap₂, true≢false, zero, suc, length, map, bytes_eq}
 use Rattle.std.specs.List.{list_any}
 use Rattle.std.proofs.lemmas.Slice.Eq.{bytes_eq-Decides}
 use Rattle.std.proofs.lemmas.List.Folds.{list_any-append}
 use Rattle.tree_types.specs.declared.path.Sel.{Sel}
-use Rattle.tree_types.specs.declared.path.Sel.TheVariants.{Main, Exit, Group, Step, Task, Item, Attempt}
 use Rattle.tree_types.specs.declared.entry.HolderKey.{HolderKey}
-use Rattle.tree_types.specs.Places.{sel_eq, sels_eq}
+use Rattle.tree_types.specs.Places.{sels_eq}
 use Rattle.books.specs.declared.Request.{Request}
 use Rattle.books.specs.Books.{Text, key_eq, held, released, change_first, released_only, granted_once, granted_times, granted, is_next, request, filed_only, filed, freed, request_of}
 use Rattle.books.specs.Laws.{is_of, KeysDiffer}
 use Rattle.tree_types.specs.declared.entry.Limit.{Limit}
 use Rattle.tree_types.specs.declared.entry.Rank.{Rank}
 use Rattle.tree_types.specs.declared.path.LockId.{LockId}
+use Rattle.tree_types.proofs.Sels.{sels_are, sels_same}
 use Rattle.books.proofs.Books.{either_false}
 
 both_true : (a b : Bool) → (a && b) ≡ true → (a ≡ true) × (b ≡ true)
 both_true true b h = (refl, h)
 both_true false b h = absurd (true≢false (sym h))
-
-sel_same : (a b : Sel) → sel_eq a b ≡ true → a ≡ b
-sel_same Main Main e = refl
-sel_same Exit Exit e = refl
-sel_same (Group i) (Group j) e = ap Group (eqb-true i j e)
-sel_same (Step i) (Step j) e = ap Step (eqb-true i j e)
-sel_same (Task i) (Task j) e = ap Task (eqb-true i j e)
-sel_same (Item i) (Item j) e = ap Item (eqb-true i j e)
-sel_same (Attempt i) (Attempt j) e = ap Attempt (eqb-true i j e)
-sel_same _ _ e = absurd (true≢false (sym e))
-
-sels_same : (p q : List Sel) → sels_eq p q ≡ true → p ≡ q
-sels_same [] [] e = refl
-sels_same [] (b ∷ q) e = absurd (true≢false (sym e))
-sels_same (a ∷ p) [] e = absurd (true≢false (sym e))
-sels_same (a ∷ p) (b ∷ q) e = let two = both_true (sel_eq a b) (sels_eq p q) e in ap₂ (λ (x : Sel) (xs : List Sel). x ∷ xs) (sel_same a b two.0) (sels_same p q two.1)
-
-sel_is : (a : Sel) → sel_eq a a ≡ true
-sel_is Main = refl
-sel_is Exit = refl
-sel_is (Group i) = eq-eqb i i refl
-sel_is (Step i) = eq-eqb i i refl
-sel_is (Task i) = eq-eqb i i refl
-sel_is (Item i) = eq-eqb i i refl
-sel_is (Attempt i) = eq-eqb i i refl
-
-sels_are : (p : List Sel) → sels_eq p p ≡ true
-sels_are [] = refl
-sels_are (a ∷ p) = ap (λ (x : Bool). x && sels_eq p p) (sel_is a) ∙ sels_are p
 
 abbrev key_of : Text → List Sel → HolderKey
 key_of w p = record { workflow = w; path = record { sels = p } }

@@ -41,6 +41,10 @@ impl Board {
         requires within { All (All (λ p. p < length self.now.before.items)) self.now.before.items }
         ensures { IfOk result (λ found. found ≡ ancestors self.now row.now) }
     {
+        if row.is_empty() {
+            // most tasks of a wide DAG: no mark for each of its tasks
+            return Ok(List::new(alloc));
+        }
         let mut found = Firsts::new(alloc, self.before.len())?;
         for j in 0..row.len() {
             self.add_up_to(row[j], &mut found)?;
@@ -58,7 +62,7 @@ impl Board {
             None => Ok(()),
             Some(state) => {
                 let name = &dag.tasks.get(place).call.name;
-                add_tags_of(tags, "tasks.", name, state.node())
+                add_tags_of(tags, "tasks.", name, state.state().node())
             }
         }
     }

@@ -7,7 +7,7 @@ ghost use Rattle.dag_board.specs.Turns.{IsNew};
 use base_types::{List, Memory};
 use dag_template::{Stand, waiting};
 use std::alloc::Global;
-use tree_state::State;
+use tree_state::Shared;
 use wf_manifest::Dag;
 
 /// How the tasks of a DAG stand so far: what others see of each, what it made, and the positions of its ancestors in the order
@@ -15,7 +15,7 @@ use wf_manifest::Dag;
 #[derive(Debug, Drop)]
 pub struct Board {
     pub(crate) stands: Vec<Stand>,
-    pub(crate) states: Vec<Option<State>>,
+    pub(crate) states: Vec<Option<Shared>>,
     pub(crate) before: Vec<List<usize>>,
 }
 
@@ -43,7 +43,7 @@ fn no_stands(alloc: Global, count: usize) -> Result<Vec<Stand>, Memory>
     Ok(stands)
 }
 
-fn no_states(alloc: Global, count: usize) -> Result<Vec<Option<State>>, Memory>
+fn no_states(alloc: Global, count: usize) -> Result<Vec<Option<Shared>>, Memory>
     ensures { IfOk result (λ states. states.items ≡ replicate count None) }
 {
     let mut states = Vec::with_capacity(alloc, count)?;

@@ -21,7 +21,7 @@ use growth::laws::rounds_settle;
 use meaning::Place;
 use scopes::{Scope, Tags};
 use std::alloc::Global;
-use tree_state::{Below, State};
+use tree_state::{Below, Shared, State};
 use tree_types::{Kind, Node, Path, Phase, Wants};
 use wf_manifest::{Dag, OutputDecls, Task};
 
@@ -47,7 +47,7 @@ fn add_part(
     place: &Place,
     i: usize,
     task: &Task,
-    state: Option<State>,
+    state: Option<Shared>,
     begins: bool,
 ) -> Result<(), Memory>
     requires few { i < 2 ^ 32 }
@@ -57,7 +57,7 @@ fn add_part(
         ≡ then_parts below.old (part_then begins (dags.task_place place.now i task.now) state nothing)) }
 {
     if let Some(state) = state {
-        return below.push(state);
+        return below.push_shared(state);
     }
     if !begins {
         return Ok(());

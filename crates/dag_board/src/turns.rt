@@ -20,7 +20,7 @@ use depends_expr::TaskResult;
 use growth::laws::rounds_settle;
 use meaning::Place;
 use std::alloc::Global;
-use tree_state::{Below, State};
+use tree_state::{Below, Shared, State};
 use tree_types::{Kind, Note, Phase, Wants};
 use wf_manifest::Dag;
 
@@ -65,7 +65,7 @@ fn omitted_state(alloc: Global, place: Place) -> State
 }
 
 impl Board {
-    fn put(&mut self, i: usize, stand: Stand, state: Option<State>, before: List<usize>)
+    fn put(&mut self, i: usize, stand: Stand, state: Option<Shared>, before: List<usize>)
         requires stands { i < length self.old.stands.items }
         requires states { i < length self.old.states.items }
         requires before { i < length self.old.before.items }
@@ -83,7 +83,7 @@ impl Board {
         plan: &DagPlan,
         i: usize,
         branch: Phase,
-        state: State,
+        state: Shared,
     ) -> Result<(), Memory>
         requires plan { IsPlan dag.now plan.now }
         requires fits { Fits dag.now self.old }
@@ -92,7 +92,7 @@ impl Board {
     {
         rounds_settle();
         let before = self.ancestors(alloc, plan.rows.get(i).as_slice())?;
-        let stand = stand_existing(branch, &state);
+        let stand = stand_existing(branch, state.state());
         self.put(i, stand, Some(state), before);
         Ok(())
     }
@@ -104,14 +104,14 @@ impl Board {
         dag: &Dag,
         plan: &DagPlan,
         i: usize,
-        state: State,
+        state: Shared,
     ) -> Result<(), Memory>
         requires plan { IsPlan dag.now plan.now }
         requires fits { Fits dag.now self.old }
         requires place { i < length dag.now.tasks }
         ensures { OnOk result (Begins dag.now plan.now self.old self.new i state) }
     {
-        let branch = covered(&dag.tasks.get(i).call.continue_on, state.phase());
+        let branch = covered(&dag.tasks.get(i).call.continue_on, state.state().phase());
         self.exist(alloc, dag, plan, i, branch, state)
     }
 
@@ -135,7 +135,8 @@ impl Board {
     {
         let task = dag.tasks.get(i);
         let at = task_place(place, i as u32, task)?;
-        self.exist(alloc, dag, plan, i, branch, omitted_state(alloc, at))
+        let state = Shared::new(omitted_state(alloc, at))?;
+        self.exist(alloc, dag, plan, i, branch, state)
     }
 
     /// The task at position `i`, whose turn is next, is ready: it may begin, and its beginning is not recorded.

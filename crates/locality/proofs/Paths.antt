@@ -1,11 +1,10 @@
 -- Paths that begin with others: what a path that changed is off of, and what it goes down to.
 use Rattle.std.proofs.Common.{◌≡◌, refl, sym, ◌∙◌, ap, subst}
-use Rattle.std.proofs.lemmas.Bool.{eqb-true, eq-eqb}
 use Rattle.std.proofs.lemmas.List.{append_assoc}
 use Rattle.std.specs.Prelude.{[], ◌∷◌, ◌++◌, Bool, true, false, ◌&&◌}
 use Rattle.tree_types.specs.declared.path.Sel.{Sel}
-use Rattle.tree_types.specs.declared.path.Sel.TheVariants.{Main, Exit, Group, Step, Task, Item, Attempt}
 use Rattle.tree_types.specs.Places.{sel_eq, sels_eq}
+use Rattle.tree_types.proofs.Sels.{sel_is, sel_same, sels_are, sels_same}
 use Rattle.meaning.specs.Answers.{Sels}
 use Rattle.locality.specs.Paths.{begins_with, IsOff}
 
@@ -20,36 +19,6 @@ not_true true h = absurd (h refl)
 not_true false h = refl
 
 -- ---- selectors and paths that are found equal are equal
-
-pub sel_same : (a b : Sel) → sel_eq a b ≡ true → a ≡ b
-sel_same Main Main e = refl
-sel_same Exit Exit e = refl
-sel_same (Group i) (Group j) e = ap Group (eqb-true i j e)
-sel_same (Step i) (Step j) e = ap Step (eqb-true i j e)
-sel_same (Task i) (Task j) e = ap Task (eqb-true i j e)
-sel_same (Item i) (Item j) e = ap Item (eqb-true i j e)
-sel_same (Attempt i) (Attempt j) e = ap Attempt (eqb-true i j e)
-sel_same _ _ e = absurd (cc e)
-
-sel_is : (a : Sel) → sel_eq a a ≡ true
-sel_is Main = refl
-sel_is Exit = refl
-sel_is (Group i) = eq-eqb i i refl
-sel_is (Step i) = eq-eqb i i refl
-sel_is (Task i) = eq-eqb i i refl
-sel_is (Item i) = eq-eqb i i refl
-sel_is (Attempt i) = eq-eqb i i refl
-
-pub sels_same : (p q : Sels) → sels_eq p q ≡ true → p ≡ q
-sels_same [] [] e = refl
-sels_same [] (b ∷ q) e = absurd (cc e)
-sels_same (a ∷ p) [] e = absurd (cc e)
-sels_same (a ∷ p) (b ∷ q) e =
-    let two = both_true (sel_eq a b) (sels_eq p q) e in λ i. sel_same a b two.0 i ∷ sels_same p q two.1 i
-
-pub sels_are : (p : Sels) → sels_eq p p ≡ true
-sels_are [] = refl
-sels_are (a ∷ p) = ap (λ (x : Bool). x && sels_eq p p) (sel_is a) ∙ sels_are p
 
 -- two selectors that differ are found to
 pub sels_differ : (s t : Sel) → (s ≡ t → ⊥) → sel_eq s t ≡ false

@@ -3,6 +3,7 @@
 use base_types::{Text, TryCopy};
 use memo_cache::{Cache, SaveRefused};
 use std::alloc::Global;
+use std::process::Abort;
 use std::test::Fail;
 use tree_types::{HolderKey, Outputs, Params, Path, Sel, Sels};
 
@@ -60,15 +61,26 @@ fn found(
     }
 }
 
+fn finds(
+    rt: &impl Abort,
+    alloc: Global,
+    saves: &Cache,
+    place: (&str, &str),
+    now: u64,
+    max_age: Option<u64>,
+    expected: &str,
+) -> Result<(), Fail> {
+    let shown = found(alloc, saves, place, now, max_age)?;
+    assert_eq!(*rt; shown.as_str(), expected, "{} {} {now}", place.0, place.1);
+    Ok(())
+}
+
 /// The last save of a key in its cache is found, unless it is too old.
 #[test]
 fn finds_the_last_save(rt: HostRuntime) -> Result<(), Fail> {
     let alloc = rt.alloc();
     let mut saves = Cache::new(alloc);
-    assert_eq!(rt;
-        found(alloc, &saves, ("mc", "k"), 9, None)?.as_str(),
-        "none"
-    );
+    finds(&rt, alloc, &saves, ("mc", "k"), 9, None, "none")?;
     for (place, writer, result, tick) in [
         (("mc", "k"), "a", "one", 3),
         (("mc", "k"), "b", "two", 7),
@@ -77,8 +89,7 @@ fn finds_the_last_save(rt: HostRuntime) -> Result<(), Fail> {
     ] {
         assert_eq!(rt;
             save(alloc, &mut saves, place, writer, result, tick)?,
-            Ok(()),
-            "{result}"
+            Ok(())
         );
     }
     for (place, now, max_age, result) in [
@@ -93,8 +104,7 @@ fn finds_the_last_save(rt: HostRuntime) -> Result<(), Fail> {
         (("nc", "l"), 9, None, "none"),
         (("k", "mc"), 9, None, "none"),
     ] {
-        let shown = found(alloc, &saves, place, now, max_age)?;
-        assert_eq!(rt; shown.as_str(), result, "{} {} {now}", place.0, place.1);
+        finds(&rt, alloc, &saves, place, now, max_age, result)?;
     }
     Ok(())
 }
@@ -113,11 +123,7 @@ fn saves_once_for_a_writer(rt: HostRuntime) -> Result<(), Fail> {
     }
     assert_eq!(rt; save(alloc, &mut saves, place, "b", "three", 5)?, Ok(()));
     assert_eq!(rt; save(alloc, &mut copy, place, "b", "four", 5)?, Ok(()));
-    assert_eq!(rt; found(alloc, &saves, place, 5, None)?.as_str(), "three");
-    assert_eq!(rt; found(alloc, &copy, place, 5, None)?.as_str(), "four");
-    assert_eq!(rt;
-        found(alloc, &saves, ("nc", "l"), 5, None)?.as_str(),
-        "none"
-    );
-    Ok(())
+    finds(&rt, alloc, &saves, place, 5, None, "three")?;
+    finds(&rt, alloc, &copy, place, 5, None, "four")?;
+    finds(&rt, alloc, &saves, ("nc", "l"), 5, None, "none")
 }

@@ -3,6 +3,7 @@
 use base_types::{Text, TryCopy};
 use books::{LockState, laws};
 use std::alloc::Global;
+use std::process::Abort;
 use std::test::Fail;
 use sync_locks::{FileRefused, LockBook, NotHolding};
 use tree_types::{HolderKey, Limit, Limits, LockId, Path, Rank, Sel, Sels};
@@ -140,12 +141,39 @@ fn two_of(
     states(alloc, &book, &["x", "y"])
 }
 
+const NAMES: [&str; 6] = ["a", "b", "d", "c", "e", "x"];
+
+fn stand(
+    rt: &impl Abort,
+    alloc: Global,
+    book: &LockBook,
+    names: &[&str],
+    standing: &str,
+) -> Result<(), Fail> {
+    let states = states(alloc, book, names)?;
+    assert_eq!(*rt; states.as_str(), standing);
+    Ok(())
+}
+
+/// A release of a lock that is held: how many hold it then, and how the requests stand.
+fn passes_on(
+    rt: &impl Abort,
+    alloc: Global,
+    book: &mut LockBook,
+    name: &str,
+    holders: u64,
+    standing: &str,
+) -> Result<(), Fail> {
+    let lock = lock_id(alloc, LOCK)?;
+    assert_eq!(*rt; release(alloc, book, name)?, Ok(()));
+    assert_eq!(*rt; book.holders(&lock), holders);
+    stand(rt, alloc, book, &NAMES, standing)
+}
+
 /// Two may hold; waiters are ranked by priority, age and name.
 #[test]
 fn grants_in_order_of_rank(rt: HostRuntime) -> Result<(), Fail> {
     let alloc = rt.alloc();
-    let names = ["a", "b", "d", "c", "e", "x"];
-    let lock = lock_id(alloc, LOCK)?;
     let mut book = book_of(alloc, LOCK, 2)?;
     for (name, priority, created, standing) in [
         ("a", 0, 50, "h-----"),
@@ -155,7 +183,7 @@ fn grants_in_order_of_rank(rt: HostRuntime) -> Result<(), Fail> {
         ("e", 1, 10, "hhwww-"),
     ] {
         file(alloc, &mut book, LOCK, name, priority, created)?;
-        assert_eq!(rt; states(alloc, &book, &names)?.as_str(), standing);
+        stand(&rt, alloc, &book, &NAMES, standing)?;
     }
     let before = book.copy()?;
     for (name, holders, standing) in [
@@ -165,12 +193,30 @@ fn grants_in_order_of_rank(rt: HostRuntime) -> Result<(), Fail> {
         ("e", 1, "rrhrr-"),
         ("d", 0, "rrrrr-"),
     ] {
-        assert_eq!(rt; release(alloc, &mut book, name)?, Ok(()));
-        assert_eq!(rt; states(alloc, &book, &names)?.as_str(), standing);
-        assert_eq!(rt; book.holders(&lock), holders);
+        passes_on(&rt, alloc, &mut book, name, holders, standing)?;
     }
-    assert_eq!(rt; states(alloc, &before, &names)?.as_str(), "hhwww-");
     book.well_kept();
+    stand(&rt, alloc, &before, &NAMES, "hhwww-")
+}
+
+fn refuses_again(
+    rt: &impl Abort,
+    alloc: Global,
+    book: &mut LockBook,
+    name: &str,
+) -> Result<(), Fail> {
+    assert_eq!(*rt; file_again(alloc, book, name)?, Err(FileRefused::Known));
+    Ok(())
+}
+
+fn releases(
+    rt: &impl Abort,
+    alloc: Global,
+    book: &mut LockBook,
+    name: &str,
+    answer: Result<(), NotHolding>,
+) -> Result<(), Fail> {
+    assert_eq!(*rt; release(alloc, book, name)?, answer);
     Ok(())
 }
 
@@ -186,10 +232,10 @@ fn refuses_known_keys_and_keys_that_do_not_hold(rt: HostRuntime) -> Result<(), F
         ("a", Ok(()), "rh"),
         ("a", Err(NotHolding), "rh"),
     ] {
-        assert_eq!(rt; file_again(alloc, &mut book, "a")?, Err(FileRefused::Known));
-        assert_eq!(rt; file_again(alloc, &mut book, "b")?, Err(FileRefused::Known));
-        assert_eq!(rt; release(alloc, &mut book, name)?, answer);
-        assert_eq!(rt; states(alloc, &book, &["a", "b"])?.as_str(), standing);
+        refuses_again(&rt, alloc, &mut book, "a")?;
+        refuses_again(&rt, alloc, &mut book, "b")?;
+        releases(&rt, alloc, &mut book, name, answer)?;
+        stand(&rt, alloc, &book, &["a", "b"], standing)?;
     }
     // another path of the same workflow is another key
     let node = key_of(alloc, "a", &[Sel::Main])?;
@@ -210,14 +256,33 @@ fn knows_limits(rt: HostRuntime) -> Result<(), Fail> {
     ] {
         assert_eq!(rt; three_of(alloc, lock, given)?.as_str(), standing);
     }
+    Ok(())
+}
+
+#[test]
+fn tells_locks_apart(rt: HostRuntime) -> Result<(), Fail> {
+    let alloc = rt.alloc();
     let mut book = book_of(alloc, LOCK, 9)?;
     file(alloc, &mut book, "semaphore/cm/other", "a", 0, 1)?;
     file(alloc, &mut book, "mutex/m", "b", 0, 1)?;
     file(alloc, &mut book, "mutex/n", "c", 0, 1)?;
-    assert_eq!(rt; states(alloc, &book, &["a", "b", "c"])?.as_str(), "whh");
+    stand(&rt, alloc, &book, &["a", "b", "c"], "whh")?;
     // a release of one lock grants no other
-    assert_eq!(rt; release(alloc, &mut book, "b")?, Ok(()));
-    assert_eq!(rt; states(alloc, &book, &["a", "b", "c"])?.as_str(), "wrh");
+    releases(&rt, alloc, &mut book, "b", Ok(()))?;
+    stand(&rt, alloc, &book, &["a", "b", "c"], "wrh")
+}
+
+/// How two waiters stand, filed in this order and in the other.
+fn ranks(
+    rt: &impl Abort,
+    alloc: Global,
+    first: Ranked<'_>,
+    second: Ranked<'_>,
+    so: &str,
+    turned: &str,
+) -> Result<(), Fail> {
+    assert_eq!(*rt; two_of(alloc, first, second, false)?.as_str(), so);
+    assert_eq!(*rt; two_of(alloc, first, second, true)?.as_str(), turned);
     Ok(())
 }
 
@@ -234,13 +299,10 @@ fn ranks_waiters(rt: HostRuntime) -> Result<(), Fail> {
         ((0, 1, "w", true, "z"), (0, 1, "w", false, "a")),
         ((0, 1, "w", false, "a"), (0, 1, "w", false, "aa")),
     ] {
-        assert_eq!(rt; two_of(alloc, first, second, false)?.as_str(), "hw");
-        assert_eq!(rt; two_of(alloc, first, second, true)?.as_str(), "hw");
+        ranks(&rt, alloc, first, second, "hw", "hw")?;
     }
     let equal = (0, 1, "w", true, "n");
-    assert_eq!(rt; two_of(alloc, equal, equal, false)?.as_str(), "hw");
-    assert_eq!(rt; two_of(alloc, equal, equal, true)?.as_str(), "wh");
-    Ok(())
+    ranks(&rt, alloc, equal, equal, "hw", "wh")
 }
 
 #[test]

@@ -10,6 +10,7 @@ use fanout::{Items, add_item_tags, item_text, items, name_text};
 use scopes::{Scope, Tags, same_values, subst};
 use serde_json::Value;
 use std::alloc::Global;
+use std::process::Abort;
 use std::test::Fail;
 use tag_text::{TagText, parse_tags};
 use tree_types::{Param, Params};
@@ -40,25 +41,36 @@ fn said(alloc: Global, text: &str, scope: &Scope) -> Result<String, Fail> {
     })
 }
 
+fn gives(
+    rt: &impl Abort,
+    alloc: Global,
+    scope: &Scope,
+    text: &str,
+    expected: &str,
+) -> Result<(), Fail> {
+    let said = said(alloc, text, scope)?;
+    assert_eq!(*rt; said.as_str(), expected, "{text}");
+    Ok(())
+}
+
+/// Two tags of an item, of which one has two values, and a tag inside with a value that looks like a tag.
+fn inner_scope(alloc: Global) -> Result<Scope, Fail> {
+    let mut outer = Tags::new(alloc);
+    for value in ["0", "1"] {
+        let name = Text::from_text(alloc, "item")?;
+        outer.add(name, Text::from_text(alloc, value)?)?;
+    }
+    let mut inner = Tags::new(alloc);
+    let name = Text::from_text(alloc, "item.k")?;
+    inner.add(name, Text::from_text(alloc, "{{item}}")?)?;
+    Ok(scope(alloc)?.with(outer)?.with(inner)?)
+}
+
 /// Each tag is replaced once, and of two values of a tag the later counts; tags of scopes around have their values too.
 #[test]
 fn gives_tags_their_values(rt: HostRuntime) -> Result<(), Fail> {
     let alloc = rt.alloc();
-    let mut outer = Tags::new(alloc);
-    outer.add(
-        Text::from_text(alloc, "item")?,
-        Text::from_text(alloc, "0")?,
-    )?;
-    outer.add(
-        Text::from_text(alloc, "item")?,
-        Text::from_text(alloc, "1")?,
-    )?;
-    let mut inner = Tags::new(alloc);
-    inner.add(
-        Text::from_text(alloc, "item.k")?,
-        Text::from_text(alloc, "{{item}}")?,
-    )?;
-    let scope = scope(alloc)?.with(outer)?.with(inner)?;
+    let scope = inner_scope(alloc)?;
     for (text, expected) in [
         ("a", "a"),
         ("", ""),
@@ -76,7 +88,7 @@ fn gives_tags_their_values(rt: HostRuntime) -> Result<(), Fail> {
             "the tag workflow.status has no value",
         ),
     ] {
-        assert_eq!(rt; said(alloc, text, &scope)?.as_str(), expected, "{text}");
+        gives(&rt, alloc, &scope, text, expected)?;
     }
     same_values();
     Ok(())
@@ -95,6 +107,20 @@ fn shown(alloc: Global, each: &Loop) -> Result<String, Fail> {
         }
         Err(refused) => Ok(format!(in alloc; "{refused}")?),
     }
+}
+
+fn lists(rt: &impl Abort, alloc: Global, list: &str, expected: &str) -> Result<(), Fail> {
+    let each = Loop::Items(Json::new(Value::from_str(alloc, list)?));
+    let shown = shown(alloc, &each)?;
+    assert_eq!(*rt; shown.as_str(), expected, "{list}");
+    Ok(())
+}
+
+fn reads(rt: &impl Abort, alloc: Global, text: &str, expected: &str) -> Result<(), Fail> {
+    let each = Loop::Param(parse_tags(alloc, text)?);
+    let shown = shown(alloc, &each)?;
+    assert_eq!(*rt; shown.as_str(), expected, "{text}");
+    Ok(())
 }
 
 #[test]
@@ -126,9 +152,14 @@ fn lists_items(rt: HostRuntime) -> Result<(), Fail> {
         (r#"[1.5,"{{a}}"]"#, "no value for a"),
         (r#"[{"c":"{{b}}","a":"{{a}}"}]"#, "no value for a"),
     ] {
-        let each = Loop::Items(Json::new(Value::from_str(alloc, list)?));
-        assert_eq!(rt; shown(alloc, &each)?.as_str(), expected, "{list}");
+        lists(&rt, alloc, list, expected)?;
     }
+    Ok(())
+}
+
+#[test]
+fn lists_items_of_texts(rt: HostRuntime) -> Result<(), Fail> {
+    let alloc = rt.alloc();
     for (text, expected) in [
         (r#"[1,"a"]"#, r#"1;"a";"#),
         ("{{workflow.parameters.l}}", r#""{{workflow.name}}";2;"#),
@@ -139,8 +170,7 @@ fn lists_items(rt: HostRuntime) -> Result<(), Fail> {
         ("[1.0]", "a number is no whole number of 64 bits"),
         ("{{a}}", "no value for a"),
     ] {
-        let each = Loop::Param(parse_tags(alloc, text)?);
-        assert_eq!(rt; shown(alloc, &each)?.as_str(), expected, "{text}");
+        reads(&rt, alloc, text, expected)?;
     }
     Ok(())
 }
@@ -174,6 +204,34 @@ const BAD_NUMBER: &str = "not a number of a sequence";
 const BAD_FORMAT: &str = "not a format of a sequence";
 
 const TOO_MANY: &str = "more than 1,000 items";
+
+/// A count, a start and a format.
+fn counts(
+    rt: &impl Abort,
+    alloc: Global,
+    count: &str,
+    start: Option<&str>,
+    format: Option<&str>,
+    expected: &str,
+) -> Result<(), Fail> {
+    let found = row(alloc, Some(count), start, None, format)?;
+    assert_eq!(*rt; found.as_str(), expected, "{count}");
+    Ok(())
+}
+
+/// A start, an end and a format.
+fn goes(
+    rt: &impl Abort,
+    alloc: Global,
+    start: Option<&str>,
+    end: &str,
+    format: Option<&str>,
+    expected: &str,
+) -> Result<(), Fail> {
+    let found = row(alloc, None, start, Some(end), format)?;
+    assert_eq!(*rt; found.as_str(), expected, "{end}");
+    Ok(())
+}
 
 #[test]
 fn counts_items(rt: HostRuntime) -> Result<(), Fail> {
@@ -212,9 +270,14 @@ fn counts_items(rt: HostRuntime) -> Result<(), Fail> {
         ("{{c}}", Some("{{s}}"), Some("{{f}}"), "no value for c"),
         ("x", Some("{{s}}"), Some("{{f}}"), "no value for s"),
     ] {
-        let found = row(alloc, Some(count), start, None, format)?;
-        assert_eq!(rt; found.as_str(), expected, "{count}");
+        counts(&rt, alloc, count, start, format, expected)?;
     }
+    Ok(())
+}
+
+#[test]
+fn goes_from_a_start_to_an_end(rt: HostRuntime) -> Result<(), Fail> {
+    let alloc = rt.alloc();
     for (start, end, format, expected) in [
         (Some("3"), "1", None, r#""3";"2";"1";"#),
         (Some("1"), "1", None, r#""1";"#),
@@ -235,8 +298,7 @@ fn counts_items(rt: HostRuntime) -> Result<(), Fail> {
         (Some("{{s}}"), "{{e}}", None, "no value for s"),
         (None, "{{e}}", Some("{{f}}"), "no value for e"),
     ] {
-        let found = row(alloc, None, start, Some(end), format)?;
-        assert_eq!(rt; found.as_str(), expected, "{end}");
+        goes(&rt, alloc, start, end, format, expected)?;
     }
     Ok(())
 }
@@ -310,6 +372,18 @@ fn item_shown(alloc: Global, list: &str, text: &str) -> Result<String, Fail> {
     }
 }
 
+fn says(
+    rt: &impl Abort,
+    alloc: Global,
+    list: &str,
+    text: &str,
+    expected: &str,
+) -> Result<(), Fail> {
+    let shown = item_shown(alloc, list, text)?;
+    assert_eq!(*rt; shown.as_str(), expected, "{list}");
+    Ok(())
+}
+
 #[test]
 fn says_items(rt: HostRuntime) -> Result<(), Fail> {
     let alloc = rt.alloc();
@@ -341,7 +415,7 @@ fn says_items(rt: HostRuntime) -> Result<(), Fail> {
             r#"{"k":1} k:1 the tag item.q has no value"#,
         ),
     ] {
-        assert_eq!(rt; item_shown(alloc, list, text)?.as_str(), expected, "{list}");
+        says(&rt, alloc, list, text, expected)?;
     }
     Ok(())
 }

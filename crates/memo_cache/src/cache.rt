@@ -14,11 +14,17 @@ use std::marker::Model;
 use tree_types::{HolderKey, Outputs, Path};
 
 /// Saves in the order in which they were made. Copies share them.
-#[derive(Drop)]
 pub struct Cache {
     alloc: Global,
     // Nothing before the first save, so that an empty cache takes no memory.
     kept: Option<Kept>,
+}
+
+// Written out, so that proofs about code that drops a cache see one call.
+impl Drop for Cache {
+    fn drop(self) {
+        let Cache { alloc: _, kept: _ } = self;
+    }
 }
 
 impl Model for Cache {

@@ -1,5 +1,5 @@
 -- What the fields of a ledger keep of its history, over each change of them.
-use Rattle.std.proofs.Common.{◌≡◌, ℕ, ◌+◌, ◌≤◌, Bool, true, false, cond, List, [], ◌∷◌, ◌++◌, length, take, drop, refl, sym, ◌∙◌, ap, arith, append-nil, length-append, length-drop, map, Option, Some, None, unwrap_or, add-zero}
+use Rattle.std.proofs.Common.{◌≡◌, ℕ, ◌+◌, ◌≤◌, Bool, true, false, cond, List, [], ◌∷◌, ◌++◌, length, take, drop, refl, sym, ◌∙◌, ap, subst, arith, append-nil, length-append, length-drop, map, Option, Some, None, unwrap_or, add-zero}
 use Rattle.std.proofs.lemmas.List.{take_all, take-append-le, drop-append-le}
 use Rattle.tree_types.specs.declared.entry.Key.{Key}
 use Rattle.tree_types.specs.declared.entry.Entry.{Entry}
@@ -12,7 +12,10 @@ use Rattle.object_store.specs.declared.line.Made.{Made}
 use Rattle.object_store.specs.Entries.{is_making, MakesObject, ChangesObject}
 use Rattle.object_store.specs.Versions.{made, made_at, versions, present}
 use Rattle.object_store.specs.Inside.Kept.{first_in, rest_in, paired, history_of, making_in, Kept}
+use Rattle.object_store.specs.Inside.Rows.{Rows, change, fresh, OneMore, IsLine, Held}
 use Rattle.object_store.proofs.Index.{apart}
+use Rattle.object_store.proofs.Rows.{fresh_line, held_later, line_more}
+use Rattle.object_store.proofs.Seen.{last_version}
 use Rattle.object_store.proofs.Versions.{keyed_no_tick, versions-grown, last_is_present}
 
 -- ---- entries with the contents that they made
@@ -65,52 +68,45 @@ making-making e es n = making-append e es ∙ ap (λ b. making_in es + cond b 1 
 module _ {C : Type 0} (apply : C → Entry → Option C) where
   -- ---- the index, after an entry about a key
 
-  held_grown : (line after : Key → List (Made C)) (h : History C) (e : Event C) (k : Key) (new : List (Made C)) → ((j : Key) → line j ≡ versions apply h j) → key_of e.entry ≡ Some k → made_at apply (clock_of h) (next_version apply (version_at apply h k) e) ≡ new
-      → ((j : Key) → after j ≡ cond (same_key j k) (line k ++ new) (line j)) → (j : Key) → after j ≡ versions apply (grown h e) j
-  held_grown line after h e k new held of makes changed j =
-      changed j ∙ by (same_key j k) refl ∙ ap (λ o. versions apply h j ++ cond (is_key j o) (made_at apply (clock_of h) (next_version apply (version_at apply h j) e)) []) (sym of) ∙ sym (versions-grown apply h e j)
+  held_grown : (line after : Key → Option (Rows C)) (es : List Entry) (x : Entry) (h : History C) (e : Event C) (k : Key) (new : List (Made C)) (r : Rows C) → ((j : Key) → Held apply es (line j) (versions apply h j)) → key_of e.entry ≡ Some k
+      → made_at apply (clock_of h) (next_version apply (version_at apply h k) e) ≡ new → IsLine apply (es ++ x ∷ []) r (versions apply h k ++ new) → ((j : Key) → after j ≡ cond (same_key j k) (Some r) (line j))
+      → (j : Key) → Held apply (es ++ x ∷ []) (after j) (versions apply (grown h e) j)
+  held_grown line after es x h e k new r held of makes grew changed j =
+      subst (λ o. Held apply (es ++ x ∷ []) o (versions apply (grown h e) j)) (sym (changed j))
+      (subst (λ ms. Held apply (es ++ x ∷ []) (cond (same_key j k) (Some r) (line j)) ms)
+      (sym (versions-grown apply h e j ∙ ap (λ o. versions apply h j ++ cond (is_key j o) (made_at apply (clock_of h) (next_version apply (version_at apply h j) e)) []) of))
+      (by (same_key j k) refl))
     where
-      by : (b : Bool) → same_key j k ≡ b → cond b (line k ++ new) (line j) ≡ versions apply h j ++ cond b (made_at apply (clock_of h) (next_version apply (version_at apply h j) e)) []
+      by : (b : Bool) → same_key j k ≡ b → Held apply (es ++ x ∷ []) (cond b (Some r) (line j)) (versions apply h j ++ cond b (made_at apply (clock_of h) (next_version apply (version_at apply h j) e)) [])
       by true s =
-          let same : k ≡ j = sym (same_key-true j k s) in
-          ap (λ ms. line k ++ ms) (sym makes)
-          ∙ ap (λ ms. ms ++ made_at apply (clock_of h) (next_version apply (version_at apply h k) e)) (held k)
-          ∙ ap (λ q. versions apply h q ++ made_at apply (clock_of h) (next_version apply (version_at apply h q) e)) same
-      by false s = held j ∙ sym (append-nil (versions apply h j))
+          subst (λ q. IsLine apply (es ++ x ∷ []) r (versions apply h q ++ made_at apply (clock_of h) (next_version apply (version_at apply h q) e))) (sym (same_key-true j k s))
+          (subst (λ ms. IsLine apply (es ++ x ∷ []) r (versions apply h k ++ ms)) (sym makes) grew)
+      by false s = subst (λ ms. Held apply (es ++ x ∷ []) (line j) ms) (sym (append-nil (versions apply h j))) (held_later apply es (x ∷ []) (line j) (versions apply h j) (held j))
 
   clock_grown : (h : History C) (e : Event C) (k : Key) → key_of e.entry ≡ Some k → clock_of (grown h e) ≡ clock_of h
   clock_grown h e k of = clock_from-append 0 h.events (e ∷ []) ∙ ap (λ t. unwrap_or t (clock_of h)) (keyed_no_tick e.entry k of)
 
-  module _ (begun : ℕ) (firsts : List (Key × C)) (line : Key → List (Made C)) (es : List Entry) (clock : ℕ) (kept : Kept apply begun firsts line es clock) where
+  module _ (begun : ℕ) (firsts : List (Key × C)) (line : Key → Option (Rows C)) (es : List Entry) (clock : ℕ) (kept : Kept apply begun firsts line es clock) where
     -- ---- an entry that changes an object
 
     pub grown_changing : (e : Entry) → is_making e ≡ false → history_of begun firsts (es ++ e ∷ []) ≡ grown (history_of begun firsts es) (event e None)
     grown_changing e n = ap (λ ys. record { start = take begun firsts; events = ys }) (paired-changing e n es (drop begun firsts))
 
-    pub kept_changing : (e : Entry) (k : Key) (v : Version C) (c : C) (after : Key → List (Made C)) → ChangesObject e k → version_at apply (history_of begun firsts es) k ≡ Some v → apply v.content e ≡ Some c
-        → ((j : Key) → after j ≡ cond (same_key j k) (line k ++ made c clock ∷ []) (line j)) → Kept apply begun firsts after (es ++ e ∷ []) clock
-    kept_changing e k v c after about stood leads changed =
+    pub kept_changing : (e : Entry) (k : Key) (v : Version C) (c : C) (after : Key → Option (Rows C)) → ChangesObject e k → version_at apply (history_of begun firsts es) k ≡ Some v → apply v.content e ≡ Some c
+        → (from to : Rows C) → line k ≡ Some from → OneMore from (made c clock) (change (length es) clock) to → ((j : Key) → after j ≡ cond (same_key j k) (Some to) (line j)) → Kept apply begun firsts after (es ++ e ∷ []) clock
+    kept_changing e k v c after about stood leads from to was more changed =
         let g : History C = history_of begun firsts es in
         let grows = grown_changing e about.1 in
         let makes : made_at apply (clock_of g) (next_version apply (version_at apply g k) (event e None)) ≡ made c clock ∷ [] =
         ap (λ o. made_at apply (clock_of g) (next_version apply o (event e None))) stood ∙ ap (λ d. made (unwrap_or d v.content) (clock_of g) ∷ []) leads ∙ ap (λ t. made c t ∷ []) (sym kept.clock_is) in
+        let old : IsLine apply es from (versions apply g k) = subst (λ o. Held apply es o (versions apply g k)) was (kept.held k) in
+        let last = last_version apply es g k from v old stood in
+        let grew = line_more apply es e from to (versions apply g k) last.0 (made c clock) old last.1 (ap (λ d. apply d e) last.2 ∙ leads) more in
         record {
           counted = kept.counted ∙ ap (λ n. begun + n) (sym (making-changing e es about.1));
-          held = λ j. held_grown line after g (event e None) k (made c clock ∷ []) kept.held about.0 makes changed j ∙ ap (λ x. versions apply x j) (sym grows);
+          held = λ j. subst (λ x. Held apply (es ++ e ∷ []) (after j) (versions apply x j)) (sym grows) (held_grown line after es e g (event e None) k (made c clock ∷ []) to kept.held about.0 makes grew changed j);
           clock_is = kept.clock_is ∙ sym (clock_grown g (event e None) k about.0) ∙ ap clock_of (sym grows);
         }
-
-    -- no entry
-    pub kept_same : (k : Key) (after : Key → List (Made C)) → ((j : Key) → after j ≡ cond (same_key j k) (line k ++ []) (line j)) → Kept apply begun firsts after es clock
-    kept_same k after changed = record {
-      counted = kept.counted;
-      held = λ j. changed j ∙ same_line (same_key j k) j refl ∙ kept.held j;
-      clock_is = kept.clock_is;
-    }
-      where
-        same_line : (b : Bool) (j : Key) → same_key j k ≡ b → cond b (line k ++ []) (line j) ≡ line j
-        same_line true j s = append-nil (line k) ∙ ap line (sym (same_key-true j k s))
-        same_line false j s = refl
 
     -- ---- an entry that makes an object
 
@@ -126,18 +122,19 @@ module _ {C : Type 0} (apply : C → Entry → Option C) where
         ∙ ap (λ os. record { start = take begun firsts; events = paired (es ++ e ∷ []) os }) (drop-append-le begun firsts (o ∷ []) begun_within)
         ∙ ap (λ ys. record { start = take begun firsts; events = ys }) (paired-making e o n es (drop begun firsts) left)
 
-    pub kept_making : (e : Entry) (k : Key) (c : C) (after : Key → List (Made C)) → MakesObject e k → line k ≡ [] → ((j : Key) → after j ≡ cond (same_key j k) (made c clock ∷ []) (line j))
+    pub kept_making : (e : Entry) (k : Key) (c : C) (after : Key → Option (Rows C)) → MakesObject e k → line k ≡ None → ((j : Key) → after j ≡ cond (same_key j k) (Some (fresh (made c clock))) (line j))
         → Kept apply begun (firsts ++ (k, c) ∷ []) after (es ++ e ∷ []) clock
     kept_making e k c after about none changed =
         let g : History C = history_of begun firsts es in
         let grows = grown_making e (k, c) about.1 in
-        let stood : version_at apply g k ≡ None = sym (last_is_present apply g k) ∙ ap present (sym (kept.held k) ∙ none) in
+        let empty : versions apply g k ≡ [] = subst (λ o. Held apply es o (versions apply g k)) none (kept.held k) in
+        let stood : version_at apply g k ≡ None = sym (last_is_present apply g k) ∙ ap present empty in
         let makes : made_at apply (clock_of g) (next_version apply (version_at apply g k) (event e (Some c))) ≡ made c clock ∷ [] =
         ap (λ o. made_at apply (clock_of g) (next_version apply o (event e (Some c)))) stood ∙ ap (λ t. made c t ∷ []) (sym kept.clock_is) in
-        let same : (j : Key) → after j ≡ cond (same_key j k) (line k ++ made c clock ∷ []) (line j) = λ j. changed j ∙ ap (λ ms. cond (same_key j k) (ms ++ made c clock ∷ []) (line j)) (sym none) in
+        let grew = subst (λ ms. IsLine apply (es ++ e ∷ []) (fresh (made c clock)) (ms ++ made c clock ∷ [])) (sym empty) (fresh_line apply (es ++ e ∷ []) (made c clock)) in
         record {
           counted = length-append firsts ((k, c) ∷ []) ∙ (let n = kept.counted in let m = making-making e es about.1 in omega arith);
-          held = λ j. held_grown line after g (event e (Some c)) k (made c clock ∷ []) kept.held about.0 makes same j ∙ ap (λ x. versions apply x j) (sym grows);
+          held = λ j. subst (λ x. Held apply (es ++ e ∷ []) (after j) (versions apply x j)) (sym grows) (held_grown line after es e g (event e (Some c)) k (made c clock ∷ []) (fresh (made c clock)) kept.held about.0 makes grew changed j);
           clock_is = kept.clock_is ∙ sym (clock_grown g (event e (Some c)) k about.0) ∙ ap clock_of (sym grows);
         }
 
@@ -149,7 +146,10 @@ module _ {C : Type 0} (apply : C → Entry → Option C) where
         let grows = grown_changing (Tick to) refl in
         record {
           counted = kept.counted ∙ ap (λ n. begun + n) (sym (making-changing (Tick to) es refl));
-          held = λ j. kept.held j ∙ sym (append-nil (versions apply g j)) ∙ sym (versions-grown apply g (event (Tick to) None) j) ∙ ap (λ x. versions apply x j) (sym grows);
+          held = λ j.
+              subst (λ ms. Held apply (es ++ Tick to ∷ []) (line j) ms)
+              (sym (append-nil (versions apply g j)) ∙ sym (versions-grown apply g (event (Tick to) None) j) ∙ ap (λ x. versions apply x j) (sym grows))
+              (held_later apply es (Tick to ∷ []) (line j) (versions apply g j) (kept.held j));
           clock_is = sym (clock_from-append 0 g.events (event (Tick to) None ∷ [])) ∙ ap clock_of (sym grows);
         }
 
@@ -181,7 +181,7 @@ module _ {C : Type 0} (apply : C → Entry → Option C) where
       by true q = absurd (cc)
       by false q = absurd (cc)
 
-  module _ (begun : ℕ) (firsts : List (Key × C)) (line : Key → List (Made C)) (es : List Entry) (clock : ℕ) (kept : Kept apply begun firsts line es clock) (old : History C) (is : history_of begun firsts es ≡ old) (first : old.events ≡ []) where
+  module _ (begun : ℕ) (firsts : List (Key × C)) (line : Key → Option (Rows C)) (es : List Entry) (clock : ℕ) (kept : Kept apply begun firsts line es clock) (old : History C) (is : history_of begun firsts es ≡ old) (first : old.events ≡ []) where
     no_entries : es ≡ []
     no_entries = nothing_paired es (drop begun firsts) (ap (λ (g : History C). g.events) is ∙ first)
 
@@ -196,7 +196,7 @@ module _ {C : Type 0} (apply : C → Entry → Option C) where
         ap (λ ys. history_of n (firsts ++ (k, c) ∷ []) ys) no_entries
         ∙ ap (λ os. record { start = os; events = [] }) (take_all n (firsts ++ (k, c) ∷ []) (omega arith) ∙ ap (λ os. os ++ (k, c) ∷ []) starts)
 
-    pub kept_begun : (k : Key) (c : C) (n : ℕ) (after : Key → List (Made C)) → n ≡ length (firsts ++ (k, c) ∷ []) → version_at apply old k ≡ None → ((j : Key) → after j ≡ cond (same_key j k) (made c 0 ∷ []) (line j)) → Kept apply n (firsts ++ (k, c) ∷ []) after es clock
+    pub kept_begun : (k : Key) (c : C) (n : ℕ) (after : Key → Option (Rows C)) → n ≡ length (firsts ++ (k, c) ∷ []) → version_at apply old k ≡ None → ((j : Key) → after j ≡ cond (same_key j k) (Some (fresh (made c 0))) (line j)) → Kept apply n (firsts ++ (k, c) ∷ []) after es clock
     kept_begun k c n after up none changed =
         let grows = begun_is k c n up in
         let whole : record { start = old.start; events = [] } ≡ old = ap (λ ys. record { start = old.start; events = ys }) (sym first) in
@@ -204,17 +204,17 @@ module _ {C : Type 0} (apply : C → Entry → Option C) where
         record {
           counted = sym up ∙ (let m = ap making_in no_entries in omega arith);
           held = λ j.
-              changed j
-              ∙ ap (λ ms. cond (same_key j k) (made c 0 ∷ []) ms) (kept.held j ∙ ap (λ (g : History C). versions apply g j) (is ∙ sym whole))
-              ∙ at_start (same_key j k) j
-              ∙ ap (λ o. made_at apply 0 o ++ []) (sym (hidden j k c old.start absent))
-              ∙ ap (λ (g : History C). versions apply g j) (sym grows);
+              subst (λ o. Held apply es o (versions apply (history_of n (firsts ++ (k, c) ∷ []) es) j)) (sym (changed j))
+              (subst (λ ms. Held apply es (cond (same_key j k) (Some (fresh (made c 0))) (line j)) ms)
+              (ap (λ o. made_at apply 0 o ++ []) (sym (hidden j k c old.start absent)) ∙ ap (λ (g : History C). versions apply g j) (sym grows))
+              (at_start (same_key j k) j (subst (λ (g : History C). Held apply es (line j) (versions apply g j)) (is ∙ sym whole) (kept.held j))));
           clock_is = kept.clock_is ∙ ap clock_of (is ∙ sym whole) ∙ ap clock_of (sym grows);
         }
       where
-        at_start : (b : Bool) (j : Key) → cond b (made c 0 ∷ []) (made_at apply 0 (version_at_start apply j old.start) ++ []) ≡ made_at apply 0 (cond b (Some record { number = 1; content = c }) (version_at_start apply j old.start)) ++ []
-        at_start true j = refl
-        at_start false j = refl
+        at_start : (b : Bool) (j : Key) → Held apply es (line j) (made_at apply 0 (version_at_start apply j old.start) ++ [])
+            → Held apply es (cond b (Some (fresh (made c 0))) (line j)) (made_at apply 0 (cond b (Some record { number = 1; content = c }) (version_at_start apply j old.start)) ++ [])
+        at_start true j held = fresh_line apply es (made c 0)
+        at_start false j held = held
 
-  pub kept_new : (line : Key → List (Made C)) → ((j : Key) → line j ≡ []) → Kept apply 0 [] line [] 0
-  kept_new line none = record { counted = refl; held = none; clock_is = refl }
+  pub kept_new : (line : Key → Option (Rows C)) → ((j : Key) → line j ≡ None) → Kept apply 0 [] line [] 0
+  kept_new line none = record { counted = refl; held = λ j. subst (λ o. Held apply [] o []) (sym (none j)) refl; clock_is = refl }

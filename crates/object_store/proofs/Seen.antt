@@ -8,6 +8,7 @@ use Rattle.history.proofs.Carrying.{still_stands}
 use Rattle.object_store.specs.Laws.{Stands}
 use Rattle.object_store.specs.declared.line.Made.{Made}
 use Rattle.object_store.specs.Versions.{versions, present, last_of}
+use Rattle.object_store.specs.Inside.Rows.{Rows, IsLine}
 use Rattle.object_store.proofs.Versions.{last_is_present, at_last}
 
 module _ {C : Type 0} (apply : C → Entry → Option C) where
@@ -41,9 +42,29 @@ module _ {C : Type 0} (apply : C → Entry → Option C) where
       let last : last_of x ms ≡ m = (let e : Some (last_of x ms) ≡ Some m = sym (at_last x ms) ∙ ap (slice_get (x ∷ ms)) (sym place) ∙ at in cc) in
       ap (λ (y : Made C). Some record { number = length ms + 1; content = y.content }) last ∙ ap (λ n. Some record { number = n; content = m.content }) (omega arith)
 
-  pub stands_last : (h : History C) (k : Key) (ms : List (Made C)) (m : Made C) (n : ℕ) → versions apply h k ≡ ms → n ≡ length ms → slice_get ms (n - 1) ≡ Some m → version_at apply h k ≡ Some record { number = n; content = m.content }
+  stands_last : (h : History C) (k : Key) (ms : List (Made C)) (m : Made C) (n : ℕ) → versions apply h k ≡ ms → n ≡ length ms → slice_get ms (n - 1) ≡ Some m → version_at apply h k ≡ Some record { number = n; content = m.content }
   stands_last h k ms m n is number at =
       sym (last_is_present apply h k) ∙ ap present is ∙ last_stands ms m (ap (λ i. slice_get ms (i - 1)) (sym number) ∙ at) ∙ ap (λ i. Some record { number = i; content = m.content }) (sym number)
+
+  -- the object of a line
+  pub line_present : (es : List Entry) (h : History C) (k : Key) (r : Rows C) (m : Made C) (n : ℕ) → IsLine apply es r (versions apply h k) → n ≡ length r.changes + 1 → slice_get (versions apply h k) (length r.changes) ≡ Some m → version_at apply h k ≡ Some record { number = n; content = m.content }
+  line_present es h k r m n line number at =
+      stands_last h k (versions apply h k) m n refl (number ∙ sym line.stands.counted) (ap (slice_get (versions apply h k)) (omega arith) ∙ at)
+
+  last_found : (ms : List (Made C)) (n : ℕ) → length ms ≡ n + 1 → (m : Made C) × (slice_get ms n ≡ Some m) × (present ms ≡ Some record { number = n + 1; content = m.content })
+  last_found [] n many = absurd (omega arith)
+  last_found (x ∷ ms) n many =
+      let place : n ≡ length ms = omega arith in
+      (last_of x ms, ap (slice_get (x ∷ ms)) place ∙ at_last x ms, ap (λ i. Some record { number = i + 1; content = (last_of x ms).content }) (sym place))
+
+  -- its last version has the content of the object
+  pub last_version : (es : List Entry) (h : History C) (k : Key) (r : Rows C) (v : Version C) → IsLine apply es r (versions apply h k) → version_at apply h k ≡ Some v → (m : Made C) × (slice_get (versions apply h k) (length r.changes) ≡ Some m) × (m.content ≡ v.content)
+  last_version es h k r v line stood =
+      let found = last_found (versions apply h k) (length r.changes) line.stands.counted in
+      (found.0, found.1, content_is found.0.content (length r.changes + 1) (sym found.2 ∙ last_is_present apply h k ∙ stood))
+    where
+      content_is : (c : C) (n : ℕ) → Some record { number = n; content = c } ≡ Some v → c ≡ v.content
+      content_is c n e = let same : record { number = n; content = c } ≡ v = cc in ap (λ (w : Version C). w.content) same
 
   pub stands_none : (h : History C) (k : Key) → versions apply h k ≡ [] → version_at apply h k ≡ None
   stands_none h k is = sym (last_is_present apply h k) ∙ ap present is

@@ -10,6 +10,7 @@ use Rattle.history.specs.History.{History, Event, Version, number_of, grown, clo
 use Rattle.history.proofs.Extends.{extends_itself, extends_grown, clock_from-append, version_at-grown, is_version_later}
 use Rattle.history.proofs.Carrying.{key_found}
 use Rattle.object_store.specs.declared.line.Made.{Made}
+use Rattle.object_store.proofs.Places.{snoc_cases}
 use Rattle.object_store.specs.Versions.{made, last_of, present, made_at, added_by, later_versions, versions}
 
 -- an entry about a key is no tick
@@ -44,16 +45,6 @@ module _ {C : Type 0} where
   pub at_last : (m : Made C) (ms : List (Made C)) → slice_get (m ∷ ms) (length ms) ≡ Some (last_of m ms)
   at_last m [] = refl
   at_last m (n ∷ ms) = at_last n ms
-
-  snoc_cases : (ms : List (Made C)) (n : Made C) (i : ℕ) (m : Made C) → slice_get (ms ++ n ∷ []) i ≡ Some m → (slice_get ms i ≡ Some m) ⊎ ((i ≡ length ms) × (m ≡ n))
-  snoc_cases [] n zero m e = inr (refl, (let h : Some n ≡ Some m = e in cc))
-  snoc_cases [] n (suc i) m e = absurd (cc)
-  snoc_cases (x ∷ ms) n zero m e = inl e
-  snoc_cases (x ∷ ms) n (suc i) m e = by (snoc_cases ms n i m e)
-    where
-      by : (slice_get ms i ≡ Some m) ⊎ ((i ≡ length ms) × (m ≡ n)) → (slice_get (x ∷ ms) (suc i) ≡ Some m) ⊎ ((suc i ≡ length (x ∷ ms)) × (m ≡ n))
-      by (inl a) = inl a
-      by (inr a) = inr (ap suc a.0, a.1)
 
 module _ {C : Type 0} (apply : C → Entry → Option C) where
   later_versions-append : (k : Key) (t : ℕ) (v : Option (Version C)) (es fs : List (Event C)) → later_versions apply k t v (es ++ fs) ≡ later_versions apply k t v es ++ later_versions apply k (clock_from t es) (version_from apply k v es) fs

@@ -2,3 +2,4 @@
 pub mod Changes
 pub mod Lines
 pub mod Kept
+pub mod Rows

@@ -9,7 +9,8 @@ ghost use Rattle.object_store.specs.Versions.{versions};
 ghost use Rattle.object_store.specs.Answers.{GetGives, GetBackGives, CreateGives, WriteGives, TickGives, Adds, IsOf, ShowsObject};
 ghost use Rattle.object_store.specs.Inside.Changes.{Appends, Inserts, NextGives};
 ghost use Rattle.indexmap.specs.IndexMap.{spare};
-ghost use Rattle.object_store.specs.Inside.Lines.{made_in, made_of, line_at, firsts};
+ghost use Rattle.object_store.specs.Inside.Lines.{line_at, firsts};
+ghost use Rattle.object_store.specs.Inside.Rows.{IsLine, change};
 
 use crate::line::{Line, Made};
 use crate::{Content, Snapshot, StoreRefused};
@@ -53,13 +54,10 @@ fn insert<C: Content>(
     tick: u64,
 )
     requires room { 0 < spare objects.old }
-    requires new { line_at objects.old.entries key ≡ [] }
+    requires new { line_at objects.old.entries key ≡ None }
     ensures { Inserts objects.old.entries key content tick objects.new.entries }
 {
-    let line = Line {
-        first: Made { content, tick },
-        later: Vec::new(alloc),
-    };
+    let line = Line::new(alloc, Made { content, tick });
     let Ok(_) = objects.insert(key, line) else {
         unreachable!()
     };
@@ -71,24 +69,19 @@ fn append<C: Content>(
     entries: &mut Entries,
     key: &Key,
     made: Made<C>,
-    change: Entry,
+    entry: Entry,
 ) -> Result<(), Memory>
-    requires { line_at objects.old.entries key.now ≢ [] }
-    ensures ok { OnOk result (Appends objects.old.entries key.now (made ∷ []) objects.new.entries) }
-    ensures added { OnOk result (entries.new ≡ entries.old ++ change ∷ []) }
-    ensures err { OnErr result (Appends objects.old.entries key.now [] objects.new.entries) }
+    requires { line_at objects.old.entries key.now ≢ None }
+    ensures ok { OnOk result (Appends objects.old.entries key.now made
+        (change (length entries.old) made.tick) objects.new.entries) }
+    ensures added { OnOk result (entries.new ≡ entries.old ++ entry ∷ []) }
+    ensures err { OnErr result (objects.new.entries ≡ objects.old.entries) }
     ensures same { OnErr result (entries.new ≡ entries.old) }
 {
     let Some(line) = objects.get_mut(key) else {
         unreachable!()
     };
-    if line.later.len() >= usize::MAX - 1 {
-        return Err(Memory);
-    }
-    line.later.try_reserve(1)?;
-    entries.push(change)?;
-    line.later.push_reserved(made);
-    Ok(())
+    line.add(made, entries, entry)
 }
 
 impl<C: Content> Ledger<C> {
@@ -118,11 +111,12 @@ impl<C: Content> Ledger<C> {
         Ok(())
     }
 
-    // The versions of an object.
+    // The line of an object.
     fn find(&self, key: &Key) -> Option<&Line<C>>
         ensures { MatchOption result
             (versions C.apply self.now key.now ≡ [])
-            (λ line. versions C.apply self.now key.now ≡ made_in line.now) }
+            (λ line. IsLine C.apply (map (λ e. e.entry) self.now.events) line.now
+            (versions C.apply self.now key.now)) }
     {
         self.objects.get(key)
     }
@@ -134,10 +128,7 @@ impl<C: Content> Ledger<C> {
             (λ p. version_at C.apply self.now key.now ≡ Some record { number = p.0; content = p.1.now }) }
     {
         match self.find(key) {
-            Some(line) => {
-                let number = line.count();
-                Some((number, &line.version(number).content))
-            }
+            Some(line) => Some((line.count(), &line.last().content)),
             None => None,
         }
     }
@@ -161,12 +152,21 @@ impl<C: Content> Ledger<C> {
     {
         let line = self.find(key).ok_or(StoreRefused::NoObject)?;
         let version = line.count().saturating_sub(back).max(1);
-        let made = line.version(version);
+        let at = (version - 1) as usize;
+        let (kept, made) = line.nearest(at);
+        let mut content = made.content.copy()?;
+        let mut tick = made.tick;
+        // Where that version is not kept, the object's own entries make it again.
+        for i in kept..at {
+            let change = line.change(i);
+            content = content.after(self.entries().get(change.place))?;
+            tick = change.tick;
+        }
         Ok(Snapshot {
             key: key.copy()?,
             version,
-            content: made.content.copy()?,
-            tick: made.tick,
+            content,
+            tick,
         })
     }
 

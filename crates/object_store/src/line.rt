@@ -1,6 +1,15 @@
-//! The versions of one object.
+//! The versions of one object, of which few are kept.
 
-ghost use Rattle.std.specs.Prelude.{◌≡◌, ◌+◌, ◌-◌, ◌<◌, ◌≤◌, ◌^◌, length, slice_get, Some, vec_len};
+ghost use Rattle.std.specs.Prelude.{◌≡◌, ◌+◌, ◌-◌, ◌<◌, ◌≤◌, ◌++◌, List, [], ◌∷◌, length, slice_get, Some, OnOk, OnErr};
+
+use base_types::Memory;
+use std::alloc::Global;
+use std::marker::Model;
+use std::mem;
+use tree_types::{Entries, Entry};
+
+// So many versions are a row. The last row is kept whole, and of each row before it the first version.
+const ROW: usize = 64;
 
 /// A version of an object: its content, and the clock when it was made.
 #[derive(Debug, Drop)]
@@ -9,34 +18,134 @@ pub struct Made<C> {
     pub tick: u64,
 }
 
-/// The versions of an object, oldest first. There is a first one always.
-#[derive(Debug, Drop)]
+/// How a version came from the one before it: by the entry at this place among the entries, at this tick.
+#[derive(Clone, Copy)]
+pub(crate) struct Change {
+    pub(crate) place: usize,
+    pub(crate) tick: u64,
+}
+
+/// The versions of an object, oldest first, numbered by their positions from 0. There is a first one always.
+#[derive(Drop)]
 pub(crate) struct Line<C> {
-    pub(crate) first: Made<C>,
-    pub(crate) later: Vec<Made<C>>,
-    ghost counted: { vec_len later + 1 < 2 ^ 64 },
+    // The first versions of the full rows.
+    rows: Vec<Made<C>>,
+    // The first version of the last row lies here, so that an object with one version has no memory of its own.
+    first: Made<C>,
+    // The others of the last row.
+    later: Vec<Made<C>>,
+    // How each version but the very first came.
+    changes: Vec<Change>,
+}
+
+impl<C> Model for Line<C> {
+    ghost use Rattle.std.specs.Prelude.{◌≡◌};
+    ghost use Rattle.object_store.specs.Inside.Rows.{Rows};
+
+    ghost Value = { Rows C };
+
+    ghost use Rattle.object_store.specs.Inside.Rows.{IsRowed};
+
+    ghost view = { λ l. record {
+      rows = l.rows.items;
+      first = l.first;
+      later = l.later.items;
+      changes = l.changes.items;
+    } };
+
+    ghost invariant = { λ l. IsRowed l.rows.items l.later.items l.changes.items };
 }
 
 impl<C> Line<C> {
-    ghost use Rattle.object_store.specs.Inside.Lines.{made_in};
+    ghost use Rattle.object_store.specs.Inside.Rows.{row_size, fresh, StandsIn};
 
-    /// How many they are, which is the number of the last.
-    pub(crate) fn count(&self) -> u64
-        ensures { result ≡ length (made_in self.now) }
+    /// The versions of an object that was made just now.
+    pub(crate) fn new(alloc: Global, made: Made<C>) -> Self
+        ensures { result ≡ fresh made }
     {
-        self.later.len() as u64 + 1
+        Line {
+            rows: Vec::new(alloc),
+            first: made,
+            later: Vec::new(alloc),
+            changes: Vec::new(alloc),
+        }
     }
 
-    /// The version of a number.
-    pub(crate) fn version(&self, number: u64) -> &Made<C>
-        requires low { 1 ≤ number }
-        requires high { number ≤ length (made_in self.now) }
-        ensures { slice_get (made_in self.now) (number - 1) ≡ Some result.now }
+    /// How many versions they are, which is the number of the last.
+    pub(crate) fn count(&self) -> u64
+        ensures { result ≡ length self.now.changes + 1 }
     {
-        if number == 1 {
-            &self.first
+        self.changes.len() as u64 + 1
+    }
+
+    /// The last version.
+    pub(crate) fn last(&self) -> &Made<C>
+        ensures { (ms : List (Made C)) → StandsIn self.now ms →
+            slice_get ms (length self.now.changes) ≡ Some result.now }
+    {
+        self.later.last().unwrap_or(&self.first)
+    }
+
+    /// The version at a position, or the nearest before it that is kept, with its own position.
+    pub(crate) fn nearest(&self, at: usize) -> (usize, &Made<C>)
+        requires within { at ≤ length self.now.changes }
+        ensures before { result.0 ≤ at }
+        ensures near { at < result.0 + row_size }
+        ensures stands { (ms : List (Made C)) → StandsIn self.now ms →
+            slice_get ms result.0 ≡ Some result.1.now }
+    {
+        let last_row = self.changes.len() - self.later.len();
+        if at < last_row {
+            let row = at / ROW;
+            (row * ROW, &self.rows[row])
+        } else if at == last_row {
+            (at, &self.first)
         } else {
-            &self.later[(number - 2) as usize]
+            (at, &self.later[at - last_row - 1])
         }
+    }
+
+    /// How the version at a position became the next.
+    pub(crate) fn change(&self, at: usize) -> &Change
+        requires { at < length self.now.changes }
+        ensures { slice_get self.now.changes at ≡ Some result.now }
+    {
+        &self.changes[at]
+    }
+}
+
+impl<C: Drop> Line<C> {
+    ghost use Rattle.object_store.specs.Inside.Rows.{change, OneMore};
+
+    /// Adds a version, with the entry that made it behind the entries, or neither.
+    pub(crate) fn add(
+        &mut self,
+        made: Made<C>,
+        entries: &mut Entries,
+        entry: Entry,
+    ) -> Result<(), Memory>
+        ensures ok { OnOk result
+            (OneMore self.old made (change (length entries.old) made.tick) self.new) }
+        ensures added { OnOk result (entries.new ≡ entries.old ++ entry ∷ []) }
+        ensures err { OnErr result (self.new ≡ self.old) }
+        ensures same { OnErr result (entries.new ≡ entries.old) }
+    {
+        let change = Change {
+            place: entries.len(),
+            tick: made.tick,
+        };
+        self.changes.try_reserve(1)?;
+        if self.later.len() + 1 < ROW {
+            self.later.try_reserve(1)?;
+            entries.push(entry)?;
+            self.later.push_reserved(made);
+        } else {
+            self.rows.try_reserve(1)?;
+            entries.push(entry)?;
+            self.rows.push_reserved(mem::replace(&mut self.first, made));
+            self.later.clear();
+        }
+        self.changes.push_reserved(change);
+        Ok(())
     }
 }

@@ -2,57 +2,24 @@
 use Rattle.std.proofs.Common.{◌≡◌, ℕ, suc, Bool, true, false, cond, ◌&&◌, ◌||◌, [], ◌∷◌, drop, drop-cons, refl, sym, ◌∙◌, ap, ap₂, subst}
 use Rattle.std.specs.Prelude.{Option, Some, None, IsSome, is_some, slice_get, if◌then◌else◌}
 use Rattle.std.specs.HashMap.{get, WritesThrough}
-use Rattle.std.proofs.lemmas.Bool.{eqb-true}
 use Rattle.std.proofs.lemmas.Option.{slice_get_within, get_or_from_slice_get}
-use Rattle.tree_types.specs.declared.path.Sel.{Sel}
-use Rattle.tree_types.specs.declared.path.Sel.TheVariants.{Main, Exit, Group, Step, Task, Item, Attempt}
 use Rattle.tree_types.specs.declared.outcome.Outcome.{Outcome}
 use Rattle.tree_types.specs.declared.fact.Fact.{Fact}
 use Rattle.tree_types.specs.declared.fact.Fact.TheVariants.{Started, Settled, Carried, Granted, Memo, Armed, Due, Resumed, Begun}
-use Rattle.tree_types.specs.contracts.path.SelPartialEq.TheImpl.{eq-value}
 use Rattle.tree_types.specs.Places.{sel_eq, sels_eq}
+use Rattle.tree_types.proofs.Sels.{sel_tested, sels_same}
 use Rattle.meaning.specs.Answers.{Sels, Facts, MemoAnswer, first_or}
 use Rattle.recorded.specs.declared.marks.Marks.{Marks}
 use Rattle.recorded.specs.Inside.Marks.{Told, told, place_of, noted, tells, Index, path_eq, tells_if, told_at, Tells, NotesAt, NotesIf, Notes}
 
 -- ---- the test of the equality of paths
 
-sel_same : (a b : Sel) → eq-value.it a b ≡ sel_eq a b
-sel_same Main Main = refl
-sel_same Exit Exit = refl
-sel_same (Group i) (Group j) = refl
-sel_same (Step i) (Step j) = refl
-sel_same (Task i) (Task j) = refl
-sel_same (Item i) (Item j) = refl
-sel_same (Attempt i) (Attempt j) = refl
-sel_same _ _ = refl
-
 -- the map compares paths as the meaning does
 pub path_same : (p q : Sels) → path_eq p q ≡ sels_eq p q
 path_same [] [] = refl
 path_same [] (b ∷ q) = refl
 path_same (a ∷ p) [] = refl
-path_same (a ∷ p) (b ∷ q) = ap (λ (x : Bool). x && path_eq p q) (sel_same a b) ∙ ap (λ (x : Bool). sel_eq a b && x) (path_same p q)
-
-both_true : (a b : Bool) → (a && b) ≡ true → (a ≡ true) × (b ≡ true)
-both_true true b h = (refl, h)
-both_true false b h = absurd (cc h)
-
-sel_is : (a b : Sel) → sel_eq a b ≡ true → a ≡ b
-sel_is Main Main e = refl
-sel_is Exit Exit e = refl
-sel_is (Group i) (Group j) e = ap Group (eqb-true i j e)
-sel_is (Step i) (Step j) e = ap Step (eqb-true i j e)
-sel_is (Task i) (Task j) e = ap Task (eqb-true i j e)
-sel_is (Item i) (Item j) e = ap Item (eqb-true i j e)
-sel_is (Attempt i) (Attempt j) e = ap Attempt (eqb-true i j e)
-sel_is _ _ e = absurd (cc e)
-
-path_is : (p q : Sels) → sels_eq p q ≡ true → p ≡ q
-path_is [] [] e = refl
-path_is [] (b ∷ q) e = absurd (cc e)
-path_is (a ∷ p) [] e = absurd (cc e)
-path_is (a ∷ p) (b ∷ q) e = let two = both_true (sel_eq a b) (sels_eq p q) e in ap₂ (λ (x : Sel) (xs : Sels). x ∷ xs) (sel_is a b two.0) (path_is p q two.1)
+path_same (a ∷ p) (b ∷ q) = ap (λ (x : Bool). x && path_eq p q) (sel_tested a b) ∙ ap (λ (x : Bool). sel_eq a b && x) (path_same p q)
 
 -- ---- a map in which a fact was noted
 
@@ -123,7 +90,7 @@ told_more (Begun q) J p = begun_first (told J p) (sels_eq q.sels p)
 
 -- what is told of the path q is told of the path p where the two are equal
 moved : (J : Facts) (f : Fact) (q p : Sels) (b : Bool) → sels_eq q p ≡ b → cond b (noted f (told J q)) (told J p) ≡ cond b (noted f (told J p)) (told J p)
-moved J f q p true e = ap (λ (x : Sels). noted f (told J x)) (path_is q p e)
+moved J f q p true e = ap (λ (x : Sels). noted f (told J x)) (sels_same q p e)
 moved J f q p false e = refl
 
 notes_if : (old new : Index) (J : Facts) (f : Fact) (o : Option Sels) → NotesIf o f old new → Tells old J → (p : Sels) → told_at new p ≡ noted_if o f p (told J p)

@@ -9,11 +9,12 @@ use Rattle.tree_types.specs.declared.fact.Fact.{Fact}
 use Rattle.tree_types.specs.declared.fact.Fact.TheVariants.{Started, Settled, Carried, Granted, Memo, Armed, Due, Resumed, Begun}
 use Rattle.tree_types.specs.Places.{sels_eq}
 use Rattle.tree_types.specs.Journals.{is_alike, knows}
+use Rattle.tree_types.proofs.Sels.{sels_same}
 use Rattle.shared_facts.specs.declared.kind.Kind.{Kind}
 use Rattle.shared_facts.specs.Inside.Kinds.{kind_of, kind_eq, sels_of, is_of}
 use Rattle.shared_facts.specs.Inside.Keys.{key_of}
 use Rattle.shared_facts.specs.Inside.Tables.{belongs, bucket_of}
-use Rattle.shared_facts.proofs.Same.{both_true, path_is}
+use Rattle.shared_facts.proofs.Same.{both_true}
 
 -- ---- in a bucket
 
@@ -33,7 +34,7 @@ found_among test chosen only (f ∷ J) = found_step test f (filter chosen J) J (
 -- each fact of a path is in the bucket of the path
 belongs_there : (kind : Kind) (p : List Sel) (f : Fact) → is_of kind p f ≡ true → belongs (key_of p) f ≡ true
 belongs_there kind p f e =
-    eq-eqb (key_of (sels_of f)) (key_of p) (ap key_of (path_is (sels_of f) p (both_true (kind_eq (kind_of f) kind) (sels_eq (sels_of f) p) e).1))
+    eq-eqb (key_of (sels_of f)) (key_of p) (ap key_of (sels_same (sels_of f) p (both_true (kind_eq (kind_of f) kind) (sels_eq (sels_of f) p) e).1))
 
 pub found_in_bucket : (kind : Kind) (p : List Sel) (J : List Fact) → find (is_of kind p) (bucket_of (key_of p) J) ≡ find (is_of kind p) J
 found_in_bucket kind p J = found_among (is_of kind p) (belongs (key_of p)) (belongs_there kind p) J

@@ -14,6 +14,7 @@ use Rattle.tree_types.specs.Places.{sels_eq}
 use Rattle.wf_manifest.specs.declared.calls.Argument.{Argument}
 use Rattle.wf_manifest.specs.declared.calls.Loop.{Loop}
 use Rattle.wf_manifest.specs.declared.calls.Call.{Call}
+use Rattle.wf_manifest.specs.declared.calls.Dag.{Dag}
 use Rattle.wf_manifest.specs.declared.calls.Hook.{Hook}
 use Rattle.wf_manifest.specs.declared.templates.OutputDecl.{OutputDecl}
 use Rattle.wf_manifest.specs.declared.templates.Memoize.{Memoize}
@@ -32,6 +33,7 @@ use Rattle.meaning.specs.Lines.{numbered, Made, row_of, row_in, no_outputs, all_
 use Rattle.meaning.specs.Pods.{outputs_of, pod_by, pod_made}
 use Rattle.meaning.specs.Outputs.{completed}
 use Rattle.meaning.specs.Steps.{Caller, members, member_place, group_made, group_place, steps_made}
+use Rattle.meaning.specs.Dags.{dag_made}
 use Rattle.meaning.specs.Calls.{declared_by, item_place, item_made, looped, template_named, stopped_before_loop, stopped_at_item, unless_stopped, kind_named, hook_runs, hooked, saving, body_by, body_made, template_made, call_of_template, one_made, each_made, calls}
 use Rattle.growth.proofs.Keeping.{At, node_at, ending_ends}
 use Rattle.locality.specs.Paths.{IsOff}
@@ -57,6 +59,10 @@ at_place place n at = λ i. record { sels = (at.path i).sels; name = at.name i; 
 steps_body : (A : Answers) (called : Caller) (place : Place) (s : Scope) (ds : List OutputDecl) (r : Option Retry) (gs : List (List Call)) → body_by A called place s ds r (body.Steps gs) ≡ steps_made called place s ds gs
 steps_body A called place s ds None gs = refl
 steps_body A called place s ds (Some r) gs = refl
+
+dag_body : (A : Answers) (called : Caller) (place : Place) (s : Scope) (ds : List OutputDecl) (r : Option Retry) (d : Dag) → body_by A called place s ds r (body.Dag d) ≡ dag_made A called place s ds d
+dag_body A called place s ds None d = refl
+dag_body A called place s ds (Some r) d = refl
 
 module _ (m : Manifest) (A B : Answers) (changed : Sels) (same : SameBut A B changed) (g : Scope) (left : ℕ) where
   abbrev called : Caller
@@ -154,6 +160,30 @@ module _ (m : Manifest) (A B : Answers) (changed : Sels) (same : SameBut A B cha
       let past = open_alike A B place inner t (same.granted place.sels apart) (same.memo place.sels apart) (was_body place inner t old is runs).0 in
       saved_made A called place inner t c key past cached keyed
       ∙ ap (λ (b : Made). saving place c key b) (ap (body_by A called place inner t.outputs t.retry) form ∙ steps_body A called place inner t.outputs t.retry gs)
+
+  pub dag_were : (place : Place) (inner : Scope) (t : Template) (d : Dag) (old : Made) →
+      old ≡ template_made B other place inner t → IsRunning old → t.body ≡ body.Dag d → old ≡ dag_made B other place inner t.outputs d
+  dag_were place inner t d old is runs form =
+      (was_body place inner t old is runs).1 ∙ ap (body_by B other place inner t.outputs t.retry) form ∙ dag_body B other place inner t.outputs t.retry d
+
+  -- a DAG without a cache, above the change
+  pub dag_template_again : (place : Place) (inner : Scope) (t : Template) (d : Dag) (old : Made) →
+      old ≡ template_made B other place inner t → IsRunning old → t.body ≡ body.Dag d → t.memoize ≡ None → sels_eq place.sels changed ≡ false →
+      template_made A called place inner t ≡ dag_made A called place inner t.outputs d
+  dag_template_again place inner t d old is runs form plain apart =
+      let past = open_alike A B place inner t (same.granted place.sels apart) (same.memo place.sels apart) (was_body place inner t old is runs).0 in
+      plain_made A called place inner t plain past.unlocked
+      ∙ ap (body_by A called place inner t.outputs t.retry) form
+      ∙ dag_body A called place inner t.outputs t.retry d
+
+  -- and one with a cache that had nothing
+  pub dag_template_saved : (place : Place) (inner : Scope) (t : Template) (d : Dag) (c : Memoize) (key : List ℕ) (old : Made) →
+      old ≡ template_made B other place inner t → IsRunning old → t.body ≡ body.Dag d → t.memoize ≡ Some c → said inner c.key ≡ Ok key → sels_eq place.sels changed ≡ false →
+      template_made A called place inner t ≡ saving place c key (dag_made A called place inner t.outputs d)
+  dag_template_saved place inner t d c key old is runs form cached keyed apart =
+      let past = open_alike A B place inner t (same.granted place.sels apart) (same.memo place.sels apart) (was_body place inner t old is runs).0 in
+      saved_made A called place inner t c key past cached keyed
+      ∙ ap (λ (b : Made). saving place c key b) (ap (body_by A called place inner t.outputs t.retry) form ∙ dag_body A called place inner t.outputs t.retry d)
 
   -- a pod without a cache and a retry, past its lock
   pub pod_template_changes : (place : Place) (inner : Scope) (t : Template) (old z : Made) →

@@ -5,3 +5,4 @@ mod Entering
 mod Given
 mod Opening
 mod Rows
+mod Tasks

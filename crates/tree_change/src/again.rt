@@ -16,7 +16,7 @@ ghost use Rattle.tree_walk.specs.Walking.{GivesRow, GivesGroups, GivesGroup, hoo
 ghost use Rattle.tree_change.specs.Entered.{IsRunning};
 
 use crate::leaf::is_running;
-use crate::share::{behind, group_below, shared, shared_group};
+use crate::share::{behind, group_below, shared, shared_group, task_below};
 use base_types::{List, Text, TryCopy};
 use call_nodes::{copy_place, group_place, item_place, member_place};
 use call_texts::{item_scope, loop_items, said, template_scope};
@@ -35,9 +35,9 @@ use wf_manifest::{
 };
 
 // A walk over a manifest and what is recorded of it together with a fact, and what was recorded before the fact.
-struct Again<'a, R> {
-    walk: Walk<'a, R>,
-    before: &'a R,
+pub(crate) struct Again<'a, R> {
+    pub(crate) walk: Walk<'a, R>,
+    pub(crate) before: &'a R,
 }
 
 impl<R> Drop for Again<'_, R> {
@@ -104,7 +104,7 @@ pub fn made_again<R: Recorded>(
 impl<R: Recorded> Again<'_, R> {
     // A call with so many depths left, its own among them.
     #[cycle(again)]
-    fn call(
+    pub(crate) fn call(
         &self,
         of: Listed,
         place: Place,
@@ -421,7 +421,7 @@ impl<R: Recorded> Again<'_, R> {
             (meant.template_made A (meant.calls m A g left) place scope.now template.now) }
     {
         let Some((groups, j, others)) = group_below(template, rest) else {
-            return self.walk.template(place, scope, template, left, room);
+            return self.other(place, scope, template, old, rest, left, room);
         };
         let declared = &template.outputs;
         let Some(memoize) = &template.memoize else {
@@ -430,6 +430,49 @@ impl<R: Recorded> Again<'_, R> {
         match said(&memoize.key, scope) {
             Ok(key) => self.missed(
                 place, scope, declared, memoize, key, groups, old, j, others, left, room,
+            ),
+            Err(_) => self.walk.template(place, scope, template, left, room),
+        }
+    }
+
+    // A template's node that ran, where the path goes down into no group.
+    #[cycle(again)]
+    fn other(
+        &self,
+        place: Place,
+        scope: &Scope,
+        template: &Template,
+        old: &State,
+        rest: &[Sel],
+        left: u32,
+        room: &mut Room,
+    ) -> Result<State, TreeRefused>
+        requires ready { IsReady self.now.walk.manifest.now self.now.walk.positions.now }
+        requires walkable { IsWalkable template.now }
+        requires shallow { place.depth + 5 * left + 8 < 1000 }
+        requires same { let A = R.answers self.now.walk.recorded.now in
+            SameBut A (R.answers self.now.before.now) (place.sels ++ rest.now) }
+        requires runs { IsRunning old.now }
+        requires was { let m = self.now.walk.manifest.now in
+            let B = R.answers self.now.before.now in
+            let g = self.now.walk.globals.now in
+            old.now ≡ meant.template_made B (meant.calls m B g left) place scope.now template.now }
+        ensures { let m = self.now.walk.manifest.now in
+            let A = R.answers self.now.walk.recorded.now in
+            let g = self.now.walk.globals.now in
+            Gives room.old room.new result
+            (meant.template_made A (meant.calls m A g left) place scope.now template.now) }
+    {
+        let Some((dag, j, others)) = task_below(template, rest) else {
+            return self.walk.template(place, scope, template, left, room);
+        };
+        let declared = &template.outputs;
+        let Some(memoize) = &template.memoize else {
+            return self.dag(place, scope, declared, dag, old, j, others, left, room);
+        };
+        match said(&memoize.key, scope) {
+            Ok(key) => self.missed_dag(
+                place, scope, declared, memoize, key, dag, old, j, others, left, room,
             ),
             Err(_) => self.walk.template(place, scope, template, left, room),
         }

@@ -3,6 +3,7 @@
 
 mod again;
 mod change;
+mod dag_again;
 mod leaf;
 mod share;
 

@@ -15,7 +15,7 @@ use row_states::group_tags;
 use tree_state::{Room, Shared, TreeRefused};
 use tree_types::Sel;
 use tree_walk::Group;
-use wf_manifest::{Body, Group as Calls, Groups, Template};
+use wf_manifest::{Body, Dag, Group as Calls, Groups, Template};
 
 /// What a path has behind this selector, if it begins with it.
 pub fn behind(path: &[Sel], sel: Sel) -> Option<&[Sel]>
@@ -42,6 +42,21 @@ pub fn group_below<'a>(
     let (first, others) = split(path)?;
     match first {
         Sel::Group(i) => Some((groups, i, others)),
+        _ => None,
+    }
+}
+
+/// The DAG of a template, the number of the task that a path goes down into, and what the path has behind it.
+pub fn task_below<'a>(template: &'a Template, path: &'a [Sel]) -> Option<(&'a Dag, u32, &'a [Sel])>
+    ensures dag { IfSome result (λ below. template.now.body ≡ body.Dag below.0.now) }
+    ensures path { IfSome result (λ below. path.now ≡ sels.Task below.1 ∷ below.2.now) }
+{
+    let Body::Dag(dag) = &template.body else {
+        return None;
+    };
+    let (first, others) = split(path)?;
+    match first {
+        Sel::Task(j) => Some((dag, j, others)),
         _ => None,
     }
 }

@@ -1,9 +1,9 @@
 -- What is found in the tree that is kept.
 use Rattle.std.proofs.Common.{◌≡◌, inl, inr, ℕ, zero, suc, ◌<◌, Bool, true, false, cond, List, [], ◌∷◌, length, get_or, Some, refl, sym, ap, ◌∙◌, subst, arith}
-use Rattle.std.specs.List.{find, Contains}
+use Rattle.std.specs.List.{find}
 use Rattle.std.proofs.lemmas.Slice.Eq.{bytes_eq-Decides}
 use Rattle.tree_types.specs.declared.node.Node.{Node}
-use Rattle.tree_types.specs.declared.path.Sel.{Sel}
+use Rattle.tree_types.proofs.Sels.{sels_same}
 use Rattle.wf_manifest.specs.declared.manifest.Manifest.{Manifest}
 use Rattle.wf_manifest.specs.Valid.{Valid}
 use Rattle.meaning.specs.declared.lines.Line.{Line}
@@ -11,7 +11,6 @@ use Rattle.meaning.specs.Answers.{path, Answers, answers}
 use Rattle.meaning.specs.Trees.{lines, nodes_in}
 use Rattle.growth.specs.Growth.{Among}
 use Rattle.growth.specs.Nodes.{Unlike, OnePath, ValidAreApart, OneName}
-use Rattle.growth.proofs.Journals.{sels_same}
 use Rattle.tree_state.specs.declared.clue.Clue.{Clue}
 use Rattle.tree_state.specs.declared.clue.Clue.TheVariants as clue
 use Rattle.tree_state.specs.Finding.{fits, IsFound}

@@ -1,16 +1,11 @@
 -- What is found among lines: wants that pass a test, nodes, and the next timer.
-use Rattle.std.proofs.Common.{◌≡◌, ℕ, zero, suc, ◌+◌, ◌<◌, length, get_or, drop, List, [], ◌∷◌, Bool, true, false, cond, Option, Some, None, refl, sym, ap, ap₂, ◌∙◌, subst, arith}
+use Rattle.std.proofs.Common.{◌≡◌, ℕ, zero, suc, ◌+◌, ◌<◌, length, get_or, drop, List, [], ◌∷◌, Bool, true, false, cond, Option, Some, None, refl, sym, ap, ◌∙◌, subst, arith}
 use Rattle.std.specs.Prelude.{◌||◌, ◌&&◌, filter_map}
 use Rattle.std.specs.List.{find, list_any, Contains, cons_option}
-use Rattle.std.specs.Cmp.Lexicographic.{pointwise}
 use Rattle.std.proofs.lemmas.List.Elements.{Contains-append_left, Contains-append_right}
 use Rattle.std.specs.declared.sync.Arc.{Arc}
 use Rattle.std.specs.declared.alloc.Global.{Global}
 use Rattle.tree_types.specs.declared.node.Node.{Node}
-use Rattle.tree_types.specs.declared.path.Sel.{Sel}
-use Rattle.tree_types.specs.declared.path.Sel.TheVariants as sels
-use Rattle.tree_types.specs.contracts.path.SelPartialEq.TheImpl as sel
-use Rattle.tree_types.specs.Places.{sel_eq, sels_eq}
 use Rattle.tree_types.specs.declared.want.Want.{Want}
 use Rattle.tree_types.specs.declared.want.Want.TheVariants as want
 use Rattle.meaning.specs.declared.lines.Line.{Line}
@@ -31,22 +26,6 @@ use Rattle.tree_state.proofs.Readings.{node_among, sooner_moves, sooner_alone, n
 use Rattle.tree_state.proofs.Tellings.{filter_append}
 
 -- ---- the test by which code compares paths is that of the definitions
-
-sel_same : (a b : Sel) → sel.eq-value.it a b ≡ sel_eq a b
-sel_same sels.Main sels.Main = refl
-sel_same sels.Exit sels.Exit = refl
-sel_same (sels.Group i) (sels.Group j) = refl
-sel_same (sels.Step i) (sels.Step j) = refl
-sel_same (sels.Task i) (sels.Task j) = refl
-sel_same (sels.Item i) (sels.Item j) = refl
-sel_same (sels.Attempt i) (sels.Attempt j) = refl
-sel_same _ _ = refl
-
-pub sels_same : (p q : List Sel) → pointwise sel.eq-value.it p q ≡ sels_eq p q
-sels_same [] [] = refl
-sels_same [] (b ∷ q) = refl
-sels_same (a ∷ p) [] = refl
-sels_same (a ∷ p) (b ∷ q) = ap₂ (λ (x y : Bool). x && y) (sel_same a b) (sels_same p q)
 
 -- ---- wants of a kind that pass a test
 

@@ -31,7 +31,7 @@ pushed (x ∷ kids) k =
 abbrev pub made_of : Inside → Made
 made_of a = record {
   own = record { node = a.node; wants = a.wants; finished = a.finished; any_succeeded = a.any_succeeded; all_failed = a.all_failed };
-  parts = parts_of a.kids.items;
+  parts = a.below;
 }
 
 -- one of a list, and those behind it
@@ -49,7 +49,7 @@ then_nothing (call own inner rest) = ap (λ (q : Parts). call own inner q) (then
 then_nothing (may_begin p rest) = ap (λ (q : Parts). may_begin p q) (then_nothing rest)
 then_nothing (asks w rest) = ap (λ (q : Parts). asks w q) (then_nothing rest)
 
-then_moves : (p q more : Parts) → then_parts (then_parts p q) more ≡ then_parts p (then_parts q more)
+pub then_moves : (p q more : Parts) → then_parts (then_parts p q) more ≡ then_parts p (then_parts q more)
 then_moves nothing q more = refl
 then_moves (call own inner rest) q more = ap (λ (r : Parts). call own inner r) (then_moves rest q more)
 then_moves (may_begin p rest) q more = ap (λ (r : Parts). may_begin p r) (then_moves rest q more)
@@ -61,26 +61,37 @@ then_kid p k more = then_moves p (kid_parts k) more ∙ ap (λ (q : Parts). then
 
 -- ---- one call in the place of another, kid by kid
 
-pub replaces_next : (kids : List Kid) (i : ℕ) (k new : Kid) (below after target : Parts) (left now : ℕ) (wanted kept : Option Made) → i < length kids → k ≡ get_or kids i k →
-    ((rest : Parts) → kid_before new (replaced_by rest now kept) ≡ replaced_by (kid_before k rest) left wanted) →
-    after ≡ then_parts below (kid_parts new) → then_parts below (replaced_by (parts_of (drop i kids)) left wanted) ≡ target →
-    then_parts after (replaced_by (parts_of (drop (i + 1) kids)) now kept) ≡ target
-replaces_next kids i k new below after target left now wanted kept lt is puts added was =
-    let rest = parts_of (drop (i + 1) kids) in
-    ap (λ (p : Parts). then_parts p (replaced_by rest now kept)) added
-    ∙ then_kid below new (replaced_by rest now kept)
-    ∙ ap (λ (p : Parts). then_parts below p) (puts rest)
-    ∙ ap (λ (ks : List Kid). then_parts below (replaced_by (parts_of ks) left wanted)) (sym (from_here kids i k lt is))
+pub replaces_next : (kids : List Kid) (i : ℕ) (k new : Kid) (chunk after rest target : Parts) (left now : ℕ) (wanted kept : Option Made) → i < length kids → k ≡ get_or kids i k →
+    ((more : Parts) → kid_before new (replaced_by more now kept) ≡ replaced_by (kid_before k more) left wanted) →
+    after ≡ then_parts chunk (kid_parts new) → then_parts chunk (replaced_by (then_parts (parts_of (drop i kids)) rest) left wanted) ≡ target →
+    then_parts after (replaced_by (then_parts (parts_of (drop (i + 1) kids)) rest) now kept) ≡ target
+replaces_next kids i k new chunk after rest target left now wanted kept lt is puts added was =
+    let more = then_parts (parts_of (drop (i + 1) kids)) rest in
+    ap (λ (p : Parts). then_parts p (replaced_by more now kept)) added
+    ∙ then_kid chunk new (replaced_by more now kept)
+    ∙ ap (λ (p : Parts). then_parts chunk p) (puts more)
+    ∙ ap (λ (p : Parts). then_parts chunk (replaced_by p left wanted)) (sym (kid_then k.line k.state (parts_of (drop (i + 1) kids)) rest))
+    ∙ ap (λ (ks : List Kid). then_parts chunk (replaced_by (then_parts (parts_of ks) rest) left wanted)) (sym (from_here kids i k lt is))
     ∙ was
 
-pub replaces_all : (kids : List Kid) (i : ℕ) (below target : Parts) (left : ℕ) (wanted : Option Made) → length kids ≤ i →
-    then_parts below (replaced_by (parts_of (drop i kids)) left wanted) ≡ target → below ≡ target
-replaces_all kids i below target left wanted end was =
-    sym (then_nothing below)
-    ∙ ap (λ (p : Parts). then_parts below p) (sym (none_left wanted))
-    ∙ ap (λ (ks : List Kid). then_parts below (replaced_by (parts_of ks) left wanted)) (sym (drop_all i kids end))
-    ∙ was
+pub replaces_all : (kids : List Kid) (i : ℕ) (chunk rest target : Parts) (left : ℕ) (wanted : Option Made) → length kids ≤ i →
+    then_parts chunk (replaced_by (then_parts (parts_of (drop i kids)) rest) left wanted) ≡ target → then_parts chunk (replaced_by rest left wanted) ≡ target
+replaces_all kids i chunk rest target left wanted end was =
+    ap (λ (ks : List Kid). then_parts chunk (replaced_by (then_parts (parts_of ks) rest) left wanted)) (sym (drop_all i kids end)) ∙ was
+
+-- nothing is replaced
+pub unchanged : (chunk old : Parts) (left : ℕ) (o : Option Made) → then_parts chunk (replaced_by nothing left o) ≡ then_parts old nothing → chunk ≡ old
+unchanged chunk old left o is = sym (then_nothing chunk) ∙ ap (λ (p : Parts). then_parts chunk p) (sym (none_left o)) ∙ is ∙ then_nothing old
   where
-    none_left : (o : Option Made) → replaced_by nothing left o ≡ nothing
+    none_left : (x : Option Made) → replaced_by nothing left x ≡ nothing
+    none_left None = refl
+    none_left (Some m) = refl
+
+-- all that there is is gone over
+pub replaced_whole : (new old : Parts) (left now : ℕ) (wanted kept : Option Made) → then_parts new (replaced_by nothing now kept) ≡ replaced_by (then_parts old nothing) left wanted → new ≡ replaced_by old left wanted
+replaced_whole new old left now wanted kept is =
+    sym (then_nothing new) ∙ ap (λ (p : Parts). then_parts new p) (sym (none_left kept)) ∙ is ∙ ap (λ (p : Parts). replaced_by p left wanted) (then_nothing old)
+  where
+    none_left : (x : Option Made) → replaced_by nothing now x ≡ nothing
     none_left None = refl
     none_left (Some m) = refl

@@ -6,3 +6,4 @@ mod Sums
 pub mod Tellings
 mod Found
 pub mod Readings
+mod Chunks

@@ -9,7 +9,7 @@ use Rattle.std.specs.declared.sync.Arc.{Arc}
 use Rattle.std.specs.declared.alloc.Global.{Global}
 use Rattle.tree_types.specs.declared.want.Want.{Want}
 use Rattle.meaning.specs.declared.lines.Line.{Line}
-use Rattle.meaning.specs.Lines.{Parts, nothing, Made, lines_below, lines_in}
+use Rattle.meaning.specs.Lines.{nothing, Made, lines_below, lines_in}
 use Rattle.meaning.specs.Trees.{want_in, wants_in}
 use Rattle.tree_state.specs.declared.kinds.WantKind.TheVariants.{Pod}
 use Rattle.tree_state.specs.declared.state.Line.{Line as Line'}
@@ -153,11 +153,9 @@ module _ (from : ℕ) (p : Want → Bool) (at : ℕ) (m n : Made) (same : m ≡ 
     node_skips more are le =
         skips_left from p (found_at from at p all) (at + length all) at all (pods_in m.own.wants) below is_parted at_first own counted (omega (arith, are, le))
 
-    pub node_next : (kids : List Kid) → parts_of kids ≡ m.parts → None ≡ found_at from at p (pods_in m.own.wants) →
-        Left from p (found_at from at p (pods_among (lines_in n))) (at + length (pods_among (lines_in n))) (at + own) (pods_among (lines_below (parts_of kids)))
-    node_next kids are =
-        rest_left from p (found_at from at p all) (at + length all) at all (pods_in m.own.wants) (pods_among (lines_below (parts_of kids)))
-        (is_parted ∙ ap (λ (q : Parts). pods_in m.own.wants ++ pods_among (lines_below q)) (sym are)) at_first own counted
+    pub node_rest : None ≡ found_at from at p (pods_in m.own.wants) →
+        Left from p (found_at from at p (pods_among (lines_in n))) (at + length (pods_among (lines_in n))) (at + own) (pods_among (lines_below m.parts))
+    node_rest = rest_left from p (found_at from at p all) (at + length all) at all (pods_in m.own.wants) below is_parted at_first own counted
 
 -- ---- the pods of a kid, then those of the kids behind it
 

@@ -4,15 +4,15 @@ use Rattle.std.proofs.lemmas.List.{map-append, take_more}
 use Rattle.std.specs.Prelude.{map}
 use Rattle.std.specs.declared.sync.Arc.{Arc}
 use Rattle.std.specs.declared.alloc.Global.{Global}
-use Rattle.std.proofs.lemmas.List.Folds.{list_any-append}
+use Rattle.std.proofs.lemmas.List.Folds.{list_any-append, list_all-append}
 use Rattle.std.specs.List.{list_any}
 use Rattle.tree_types.specs.declared.path.Path.{Path}
 use Rattle.tree_types.specs.declared.want.Want.{Want}
 use Rattle.meaning.specs.declared.lines.Line.{Line}
 use Rattle.meaning.specs.declared.lines.Line.TheVariants.{Asks as Asks'}
-use Rattle.meaning.specs.Lines.{Parts, nothing, Made, then_parts, lines_below, lines_in}
+use Rattle.meaning.specs.Lines.{Parts, nothing, Made, then_parts, lines_below, lines_in, row_in, all_finished}
 use Rattle.meaning.specs.Trees.{want_in, beginning_in, wants_in, beginnings_in}
-use Rattle.meaning.proofs.Flattening.{lines_then}
+use Rattle.meaning.proofs.Flattening.{lines_then, row_in_then}
 use Rattle.tree_state.specs.declared.kinds.WantKind.{WantKind}
 use Rattle.tree_state.specs.declared.kinds.WantKind.TheVariants.{Pod, Lock, LookUp, Arming, Timer, Save}
 use Rattle.tree_state.specs.declared.kinds.Asks.{Asks}
@@ -54,6 +54,8 @@ asks_then a b = λ i. record {
 pub sum_then : (p q : Parts) → sum_of (then_parts p q) ≡ sum_with (sum_of p) (sum_of q)
 sum_then p q = λ i. record {
   nodes = count_then p q i;
+  calls = (ap (λ (ms : List Made). length ms) (row_in_then p q) ∙ length-append (row_in p) (row_in q)) i;
+  finished = (ap (λ (ms : List Made). all_finished ms) (row_in_then p q) ∙ list_all-append (λ (m : Made). m.own.finished) (row_in p) (row_in q)) i;
   pods = (ap (λ (ls : List Line). length (pods_among ls)) (lines_then p q) ∙ ap (λ (ws : List Want). length ws) (pods_then (lines_below p) (lines_below q)) ∙ length-append (pods_among (lines_below p)) (pods_among (lines_below q))) i;
   asks = (ap asks_in (lines_then p q) ∙ asks_then (lines_below p) (lines_below q)) i;
 }
@@ -63,11 +65,14 @@ one_more n = omega arith
 
 -- ---- what is kept, once a kid is added
 
-pub kid_kept : (kids : List Kid) (k : Kid) (s sum : Sum) (n pods : ℕ) (a : Asks) → s ≡ sum_of (parts_of kids) → n ≡ count_below (kid_parts k) → pods ≡ length (pods_among (lines_below (kid_parts k))) → a ≡ asks_in (lines_below (kid_parts k)) →
-    sum ≡ sum_with s (record { nodes = n; pods = pods; asks = a }) → sum ≡ sum_of (parts_of (kids ++ k ∷ []))
-kid_kept kids k s sum n pods a was counted asked is given =
-    let added : record { nodes = n; pods = pods; asks = a } ≡ sum_of (kid_parts k) = λ i. record { nodes = counted i; pods = asked i; asks = is i } in
-    given ∙ ap₂ sum_with was added ∙ sym (ap sum_of (pushed kids k) ∙ sum_then (parts_of kids) (kid_parts k))
+pub kid_kept : (kids : List Kid) (k : Kid) (s new sum : Sum) → s ≡ sum_of (parts_of kids) → new ≡ sum_of (kid_parts k) →
+    sum ≡ sum_with s new → sum ≡ sum_of (parts_of (kids ++ k ∷ []))
+kid_kept kids k s new sum was is given =
+    given ∙ ap₂ sum_with was is ∙ sym (ap sum_of (pushed kids k) ∙ sum_then (parts_of kids) (kid_parts k))
+
+-- parts behind others
+pub both_kept : (p q : Parts) (s new sum : Sum) → s ≡ sum_of p → new ≡ sum_of q → sum ≡ sum_with s new → sum ≡ sum_of (then_parts p q)
+both_kept p q s new sum was is given = given ∙ ap₂ sum_with was is ∙ sym (sum_then p q)
 
 -- ---- what a kid asks for, and how many nodes it has
 

@@ -1,4 +1,7 @@
 -- What speaks only of private code.
+pub mod Chunks
 pub mod Kids
 pub mod Lower
+pub mod LowerChunks
+pub mod Sizes
 pub mod Sums

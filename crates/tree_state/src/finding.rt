@@ -22,15 +22,7 @@ impl State {
         if let Some(want) = found_in(&self.wants, kind, test) {
             return Some(want);
         }
-        if !self.sum.asks.of(kind) {
-            return None;
-        }
-        for kid in &self.kids {
-            if let Some(want) = kid.find_want(kind, test) {
-                return Some(want);
-            }
-        }
-        None
+        self.below.find_want(kind, test)
     }
 
     /// The first node, in tree order, that passes a test.
@@ -42,12 +34,7 @@ impl State {
         if test.accepts(&self.node) {
             return Some(&self.node);
         }
-        for kid in &self.kids {
-            if let Some(node) = kid.find_node(test) {
-                return Some(node);
-            }
-        }
-        None
+        self.below.find_node(test)
     }
 
     /// The least tick above a clock at which a timer is due that is asked for. What asks for no timer is not looked through.
@@ -56,14 +43,7 @@ impl State {
         ensures { result ≡ next_tick clock (wants_in (lines.lines_in self.now)) }
     {
         let own = next_in(&self.wants, clock);
-        if !self.sum.asks.of(WantKind::Timer) {
-            return own;
-        }
-        let mut next = own;
-        for kid in &self.kids {
-            next = sooner(next, kid.next_timer(clock));
-        }
-        next
+        sooner(own, self.below.next_timer(clock))
     }
 
     /// A node that a clue leads to, by the way that paths and names show. What is found fits the clue; where none is found,
@@ -89,10 +69,10 @@ impl State {
         ensures { IfSome result (λ next. IsWithin next.now self.now) }
     {
         let near = clue.position_below(&self.node);
-        let count = self.kids.len();
+        let count = self.below.calls();
         for step in 0..count {
             let position = position_at(step, near, count);
-            if let Some(state) = &self.kids[position].state {
+            if let Some(state) = self.below.call_at(position) {
                 if clue.leads_through(&state.node) {
                     return Some(state);
                 }
@@ -195,7 +175,7 @@ impl Kid {
     }
 
     #[cycle(find_want)]
-    fn find_want<T: WantTest>(&self, kind: WantKind, test: &T) -> Option<&Want>
+    pub(crate) fn find_want<T: WantTest>(&self, kind: WantKind, test: &T) -> Option<&Want>
         ensures { option_copied result ≡ find (passes kind (T.accepts test.now)) (wants_in
             (lines.lines_below (line_then self.now.line (state_then self.now.state lines.nothing)))) }
     {
@@ -209,7 +189,7 @@ impl Kid {
     }
 
     #[cycle(find_node)]
-    fn find_node<T: NodeTest>(&self, test: &T) -> Option<&Node>
+    pub(crate) fn find_node<T: NodeTest>(&self, test: &T) -> Option<&Node>
         ensures { option_copied result ≡ find (T.accepts test.now) (nodes_in
             (lines.lines_below (line_then self.now.line (state_then self.now.state lines.nothing)))) }
     {
@@ -231,7 +211,7 @@ impl Kid {
     }
 
     #[cycle(next_timer)]
-    fn next_timer(&self, clock: u64) -> Option<u64>
+    pub(crate) fn next_timer(&self, clock: u64) -> Option<u64>
         ensures { result ≡ next_tick clock (wants_in
             (lines.lines_below (line_then self.now.line (state_then self.now.state lines.nothing)))) }
     {

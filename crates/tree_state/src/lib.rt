@@ -2,6 +2,7 @@
 #![tactic(auto)]
 
 mod below;
+mod chunk;
 mod clue;
 mod finding;
 mod kinds;

@@ -35,7 +35,7 @@ impl State {
         ensures all { result ≡ length (pods_in (wants_in (lines_in self.now))) }
         ensures few { result < 2 ^ 63 + 2 ^ 32 }
     {
-        pods_of(&self.wants) + self.sum.pods as usize
+        pods_of(&self.wants) + self.below.pods()
     }
 
     // The first pod that is found, where the first of all has a position.
@@ -48,21 +48,8 @@ impl State {
         if let Some(found) = pod_in(&self.wants, at, from, test) {
             return Some(found);
         }
-        let below = self.sum.pods as usize;
-        if below == 0 {
-            return None;
-        }
-        let mut next = at + pods_of(&self.wants);
-        if next + below <= from {
-            return None;
-        }
-        for kid in &self.kids {
-            if let Some(found) = kid.find_pod_at(next, from, test) {
-                return Some(found);
-            }
-            next += kid.pods();
-        }
-        None
+        self.below
+            .find_pod_at(at + pods_of(&self.wants), from, test)
     }
 }
 
@@ -187,7 +174,12 @@ impl Kid {
     }
 
     #[cycle(find_pod)]
-    fn find_pod_at<T: WantTest>(&self, at: usize, from: usize, test: &T) -> Option<(usize, &Want)>
+    pub(crate) fn find_pod_at<T: WantTest>(
+        &self,
+        at: usize,
+        from: usize,
+        test: &T,
+    ) -> Option<(usize, &Want)>
         requires { at + length (pods_in (wants_in
             (lines_below (line_then self.now.line (state_then self.now.state nothing))))) < 2 ^ 64 }
         ensures { option_map (λ f. (f.0, f.1.now)) result ≡ found_at from at (T.accepts test.now) (pods_in (wants_in

@@ -1,6 +1,6 @@
 //! What a call makes.
 
-ghost use Rattle.std.specs.Prelude.{◌≡◌, ◌≤◌, ◌^◌, [], ◌∷◌, IfOk, OnOk, map, option_copied};
+ghost use Rattle.std.specs.Prelude.{◌≡◌, ◌≤◌, ◌^◌, [], ◌∷◌, length, IfOk, OnOk, map, option_copied};
 ghost use Rattle.std.specs.List.{find};
 ghost use Rattle.meaning.specs.Lines.{row_in};
 ghost use Rattle.meaning.specs.Trees.{wants_in, beginnings_in};
@@ -10,10 +10,10 @@ ghost use Rattle.meaning.specs.Lines as lines;
 ghost use Rattle.meaning.specs.Calls as calls;
 ghost use Rattle.meaning.specs.declared.lines.Line.TheVariants as line;
 ghost use Rattle.tree_state.specs.Inside.Kids.{own_line};
-ghost use Rattle.tree_state.specs.Inside.Sums.{asks_in};
+ghost use Rattle.tree_state.specs.Inside.Sums.{asks_in, sum_of};
 
 use crate::kinds::Asks;
-use crate::sum::Sum;
+use crate::sum::{Sum, small};
 use crate::{Below, Shared, Told, WantKind};
 use base_types::{List, Memory, TryCopy};
 use std::marker::Model;
@@ -78,8 +78,7 @@ pub struct State {
     finished: bool,
     any_succeeded: bool,
     all_failed: bool,
-    pub(crate) kids: Vec<Kid>,
-    pub(crate) sum: Sum,
+    pub(crate) below: Below,
 }
 
 // Written out, so that proofs about code that drops a state see one call.
@@ -92,8 +91,7 @@ impl Drop for State {
             finished: _,
             any_succeeded: _,
             all_failed: _,
-            kids: _,
-            sum: _,
+            below: _,
         } = self;
     }
 }
@@ -107,9 +105,6 @@ impl Model for State {
 
     ghost coded = { made_code };
 
-    ghost use Rattle.tree_state.specs.Inside.Kids.{parts_of};
-    ghost use Rattle.tree_state.specs.Inside.Sums.{sum_of};
-
     ghost view = { λ a. record {
       own = record {
         node = a.node;
@@ -118,19 +113,16 @@ impl Model for State {
         any_succeeded = a.any_succeeded;
         all_failed = a.all_failed;
       };
-      parts = parts_of a.kids.items;
+      parts = a.below;
     } };
 
-    ghost invariant = { λ a. a.sum ≡ sum_of (parts_of a.kids.items) };
+    ghost use Rattle.tree_state.specs.Inside.Sizes.{made_size};
 
-    ghost use Rattle.tree_state.specs.Counting.{count};
-
-    ghost size = { count };
+    ghost size = { made_size };
 
     ghost use Rattle.std.proofs.Common.{arith};
-    ghost use Rattle.tree_state.specs.Inside.Lower.{kids_are_lower};
 
-    ghost size_decreases = { λ a h. Prim.omega (arith, kids_are_lower a.kids.items) };
+    ghost size_decreases = { λ a h. Prim.omega arith };
 }
 
 // Which kinds of wants a node asks for.
@@ -147,22 +139,20 @@ fn asks_of_node(wants: &Wants) -> Asks
 impl State {
     ghost use Rattle.tree_state.specs.Telling.{told_with};
     ghost use Rattle.tree_state.specs.Counting.{count};
-    ghost use Rattle.tree_state.specs.Replacing.{call_at, with_call, some_succeeded, all_fell, with_item};
+    ghost use Rattle.tree_state.specs.Replacing.{call_at, with_call, with_item};
     ghost use Rattle.tree_state.specs.Making.{of_loop, with_want};
 
     /// A node with what it asks for and what stands below it.
     pub fn new(node: Node, wants: Wants, below: Below) -> State
         ensures { result ≡ lines.made node wants below }
     {
-        let (kids, sum) = below.into_kept();
         State {
             finished: fulfilled(node.phase),
             any_succeeded: false,
             all_failed: false,
             node,
             wants,
-            kids,
-            sum,
+            below,
         }
     }
 
@@ -171,15 +161,13 @@ impl State {
         ensures { result ≡ of_loop node any_succeeded all_failed below }
     {
         let alloc = node.name.allocator();
-        let (kids, sum) = below.into_kept();
         State {
             finished: fulfilled(node.phase),
             any_succeeded,
             all_failed,
             node,
             wants: Wants::new(alloc),
-            kids,
-            sum,
+            below,
         }
     }
 
@@ -188,10 +176,7 @@ impl State {
         ensures { OnOk result (self.new ≡ calls.then_hook self.old hook) }
     {
         let finished = hook.finished;
-        let kid = Kid::of(hook)?;
-        let sum = self.sum.and(kid.count(), kid.pods(), kid.asks())?;
-        self.kids.push(kid)?;
-        self.sum = sum;
+        self.below.push(hook)?;
         self.finished = finished;
         Ok(())
     }
@@ -249,30 +234,21 @@ impl State {
         ensures all { result ≡ count self.now }
         ensures few { result ≤ 2 ^ 32 }
     {
-        self.sum.nodes as usize + 1
+        self.below.nodes() + 1
     }
 
     // Which kinds of wants the call asks for.
     pub(crate) fn asks(&self) -> Asks
         ensures { result ≡ asks_in (lines.lines_in self.now) }
     {
-        asks_of_node(&self.wants).and(self.sum.asks)
+        asks_of_node(&self.wants).and(self.below.sum().asks)
     }
 
     /// The call of this position among the calls below the node.
     pub fn call_at(&self, position: usize) -> Option<&State>
         ensures { option_copied result ≡ call_at self.now.parts position }
     {
-        let mut left = position;
-        for kid in &self.kids {
-            if let Some(state) = &kid.state {
-                if left == 0 {
-                    return Some(state);
-                }
-                left -= 1;
-            }
-        }
-        None
+        self.below.call_at(position)
     }
 
     /// What the calls below the node made, each shared with this state.
@@ -280,12 +256,7 @@ impl State {
         ensures { IfOk result (λ calls. calls ≡ row_in self.now.parts) }
     {
         let mut calls = List::new(self.node.name.allocator());
-        for kid in &self.kids {
-            if let Some(state) = &kid.state {
-                let state = Arc::try_clone(state)?;
-                calls.push(Shared { state })?;
-            }
-        }
+        self.below.add_calls(&mut calls)?;
         Ok(calls)
     }
 
@@ -293,42 +264,7 @@ impl State {
     pub fn all_finished(&self) -> bool
         ensures { result ≡ lines.all_finished (row_in self.now.parts) }
     {
-        for kid in &self.kids {
-            if let Some(state) = &kid.state {
-                if !state.finished {
-                    return false;
-                }
-            }
-        }
-        true
-    }
-
-    // Whether some call below the node Succeeded.
-    fn some_succeeded(&self) -> bool
-        ensures { result ≡ some_succeeded (row_in self.now.parts) }
-    {
-        for kid in &self.kids {
-            if let Some(state) = &kid.state {
-                if state.phase() == Phase::Succeeded {
-                    return true;
-                }
-            }
-        }
-        false
-    }
-
-    // Whether all calls below the node Failed.
-    fn all_fell(&self) -> bool
-        ensures { result ≡ all_fell (row_in self.now.parts) }
-    {
-        for kid in &self.kids {
-            if let Some(state) = &kid.state {
-                if state.phase() != Phase::Failed {
-                    return false;
-                }
-            }
-        }
-        true
+        self.below.all_finished()
     }
 
     /// The same node of a looped call over another item at this position.
@@ -336,8 +272,8 @@ impl State {
         ensures { IfOk result (λ state. state ≡ with_item self.now position item) }
     {
         let mut state = self.with_call(position, item)?;
-        let any_succeeded = state.some_succeeded();
-        let all_failed = state.all_fell();
+        let any_succeeded = state.below.some_succeeded();
+        let all_failed = state.below.all_fell();
         state.any_succeeded = any_succeeded;
         state.all_failed = all_failed;
         Ok(state)
@@ -347,23 +283,16 @@ impl State {
     pub fn with_call(&self, position: usize, call: State) -> Result<State, Memory>
         ensures { IfOk result (λ state. state ≡ with_call self.now position call) }
     {
-        let mut below = Below::new(self.node.name.allocator());
-        let mut left = position;
-        let mut call = Some(call);
-        for kid in &self.kids {
-            below.add(kid.or_replaced(&mut left, &mut call)?)?;
-        }
+        let below = self.below.with_call(position, call)?;
         let node = self.node.copy()?;
         let wants = self.wants.copy()?;
-        let (kids, sum) = below.into_kept();
         Ok(State {
             node,
             wants,
             finished: self.finished,
             any_succeeded: self.any_succeeded,
             all_failed: self.all_failed,
-            kids,
-            sum,
+            below,
         })
     }
 
@@ -375,15 +304,7 @@ impl State {
         if let Some(want) = first_of(&self.wants, kind) {
             return Some(want);
         }
-        if !self.sum.asks.of(kind) {
-            return None;
-        }
-        for kid in &self.kids {
-            if let Some(want) = kid.first_want(kind) {
-                return Some(want);
-            }
-        }
-        None
+        self.below.first_want(kind)
     }
 
     /// The first task that may begin, in tree order. What has none is not looked through.
@@ -391,15 +312,7 @@ impl State {
     pub fn first_beginning(&self) -> Option<&Path>
         ensures { option_copied result ≡ first (beginnings_in (lines.lines_in self.now)) }
     {
-        if !self.sum.asks.beginnings {
-            return None;
-        }
-        for kid in &self.kids {
-            if let Some(path) = kid.first_beginning() {
-                return Some(path);
-            }
-        }
-        None
+        self.below.first_beginning()
     }
 
     /// Tells the lines of the call in tree order.
@@ -408,9 +321,7 @@ impl State {
         ensures { OnOk result (told.new ≡ told_with told.old (lines.lines_in self.now)) }
     {
         told.add_node(&self.node, &self.wants)?;
-        for kid in &self.kids {
-            kid.tell(told)?;
-        }
+        self.below.tell(told)?;
         Ok(())
     }
 }
@@ -486,6 +397,38 @@ impl Kid {
         self.own_asks().and(self.call_asks())
     }
 
+    // How many calls it has.
+    fn calls(&self) -> u32
+        ensures { result ≡ length (row_in (kid_parts self.now)) }
+    {
+        match &self.state {
+            None => 0,
+            Some(_) => 1,
+        }
+    }
+
+    fn is_finished(&self) -> bool
+        ensures { result ≡ lines.all_finished (row_in (kid_parts self.now)) }
+    {
+        match &self.state {
+            None => true,
+            Some(state) => state.finished,
+        }
+    }
+
+    /// What is kept of it.
+    pub(crate) fn sum(&self) -> Result<Sum, Memory>
+        ensures { IfOk result (λ sum. sum ≡ sum_of (kid_parts self.now)) }
+    {
+        Ok(Sum {
+            nodes: small(self.count())?,
+            pods: small(self.pods())?,
+            calls: self.calls(),
+            finished: self.is_finished(),
+            asks: self.asks(),
+        })
+    }
+
     fn own_line(&self) -> Result<Option<Arc<Line>>, Memory>
         ensures { IfOk result (λ line. (more : Parts) → line_then line more ≡ line_then self.now.line more) }
     {
@@ -505,7 +448,11 @@ impl Kid {
     }
 
     // The kid, or the call in its place where it is the one to be replaced: the one behind so many calls that are left.
-    fn or_replaced(&self, left: &mut usize, call: &mut Option<State>) -> Result<Kid, Memory>
+    pub(crate) fn or_replaced(
+        &self,
+        left: &mut usize,
+        call: &mut Option<State>,
+    ) -> Result<Kid, Memory>
         ensures { IfOk result (λ kid. (rest : Parts) →
             kid_before kid (replaced_by rest left.new call.new)
             ≡ replaced_by (kid_before self.now rest) left.old call.old) }
@@ -537,7 +484,7 @@ impl Kid {
     }
 
     #[cycle(first_want)]
-    fn first_want(&self, kind: WantKind) -> Option<&Want>
+    pub(crate) fn first_want(&self, kind: WantKind) -> Option<&Want>
         ensures { option_copied result ≡ find (is_of kind) (wants_in
             (lines_below (line_then self.now.line (state_then self.now.state nothing)))) }
     {
@@ -562,7 +509,7 @@ impl Kid {
     }
 
     #[cycle(first_beginning)]
-    fn first_beginning(&self) -> Option<&Path>
+    pub(crate) fn first_beginning(&self) -> Option<&Path>
         ensures { option_copied result ≡ first (beginnings_in
             (lines_below (line_then self.now.line (state_then self.now.state nothing)))) }
     {
@@ -578,7 +525,7 @@ impl Kid {
     ghost use Rattle.tree_state.specs.Telling.{told_with};
 
     #[cycle(tell)]
-    fn tell(&self, told: &mut Told) -> Result<(), Memory>
+    pub(crate) fn tell(&self, told: &mut Told) -> Result<(), Memory>
         ensures { OnOk result (told.new ≡ told_with told.old
             (lines_below (line_then self.now.line (state_then self.now.state nothing)))) }
     {

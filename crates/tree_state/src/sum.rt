@@ -7,11 +7,14 @@ ghost use Rattle.tree_state.specs.Inside.Sums.{sum_of, sum_with};
 use crate::kinds::Asks;
 use base_types::Memory;
 
-/// How many nodes stand below a node, for how many pods is asked there, and which kinds of lines stand there.
+/// How many nodes and calls stand below a node, for how many pods is asked there, whether all calls are finished, and which
+/// kinds of lines stand there.
 #[derive(Clone, Copy, Debug)]
 pub(crate) struct Sum {
     pub(crate) nodes: u32,
     pub(crate) pods: u32,
+    pub(crate) calls: u32,
+    pub(crate) finished: bool,
     pub(crate) asks: Asks,
 }
 
@@ -22,32 +25,42 @@ impl Sum {
         Sum {
             nodes: 0,
             pods: 0,
+            calls: 0,
+            finished: true,
             asks: Asks::nothing(),
         }
     }
 
     /// Both together.
-    pub(crate) fn and(self, nodes: usize, pods: usize, asks: Asks) -> Result<Sum, Memory>
-        ensures { IfOk result (λ sum.
-            sum ≡ sum_with self (record { nodes = nodes; pods = pods; asks = asks })) }
+    pub(crate) fn and(self, other: Sum) -> Result<Sum, Memory>
+        ensures { IfOk result (λ sum. sum ≡ sum_with self other) }
     {
         Ok(Sum {
-            nodes: together(self.nodes, nodes)?,
-            pods: together(self.pods, pods)?,
-            asks: self.asks.and(asks),
+            nodes: together(self.nodes, other.nodes)?,
+            pods: together(self.pods, other.pods)?,
+            calls: together(self.calls, other.calls)?,
+            finished: self.finished && other.finished,
+            asks: self.asks.and(other.asks),
         })
     }
 }
 
 // Two counts together. More than 32 bits can count is more than memory holds.
-fn together(count: u32, more: usize) -> Result<u32, Memory>
+fn together(count: u32, more: u32) -> Result<u32, Memory>
     ensures { IfOk result (λ sum. sum ≡ count + more) }
 {
-    let Some(sum) = more.checked_add(count as usize) else {
-        return Err(Memory);
-    };
-    if sum > u32::MAX as usize {
+    match count.checked_add(more) {
+        None => Err(Memory),
+        Some(sum) => Ok(sum),
+    }
+}
+
+/// A count in 32 bits. More than these can count is more than memory holds.
+pub(crate) fn small(count: usize) -> Result<u32, Memory>
+    ensures { IfOk result (λ small. small ≡ count) }
+{
+    if count > u32::MAX as usize {
         return Err(Memory);
     }
-    Ok(sum as u32)
+    Ok(count as u32)
 }

@@ -1,6 +1,9 @@
 -- What a call makes, step by step.
 use Rattle.std.proofs.Common.{◌≡◌, ℕ, zero, suc, ◌+◌, ◌-◌, ◌<◌, ◌≤◌, Bool, true, false, List, [], ◌∷◌, ◌++◌, Option, Some, None, Result, Ok, Err, refl, sym, ap, ◌∙◌, subst, arith}
 use Rattle.serde_json.specs.Data.{Data}
+use Rattle.tree_types.specs.declared.node.Kind.TheVariants as kind
+use Rattle.tree_types.specs.declared.node.Note.TheVariants as note
+use Rattle.tree_types.specs.declared.phase.Phase.TheVariants.{Skipped, Error}
 use Rattle.tree_types.specs.Phases.{is_succeeded}
 use Rattle.wf_manifest.specs.declared.calls.Argument.{Argument}
 use Rattle.wf_manifest.specs.declared.calls.Hook.{Hook}
@@ -14,19 +17,21 @@ use Rattle.scopes.specs.Values.{HasValuesOf}
 use Rattle.fanout.specs.ItemTexts.{item_tags}
 use Rattle.meaning.specs.declared.lines.Place.{Place}
 use Rattle.meaning.specs.Answers.{Answers}
-use Rattle.meaning.specs.Lines.{Made, row_of, tags_of}
+use Rattle.meaning.specs.Lines.{Made, alone, row_of, tags_of}
 use Rattle.meaning.specs.Steps.{Caller, groups_from, steps_by, steps_made}
 use Rattle.meaning.specs.Calls.{template_named, kind_named, template_scope, stopped_before_loop, unless_stopped, hook_runs, hook_place, then_hook, item_place, saving_if, saving, template_made, entry, call_by, call_of_template, hook_made, hooked_if, hooked, one_made, item_made, each_made, calls}
 use Rattle.tree_state.specs.declared.refused.TreeRefused.{TreeRefused}
 use Rattle.tree_state.specs.declared.refused.TreeRefused.TheVariants.{TooLarge, Memory}
 use Rattle.tree_state.specs.Counting.{count, Gives}
 use Rattle.tree_state.proofs.Counts.{count_then}
+use Rattle.call_texts.specs.declared.halt.Halt.{Halt}
+use Rattle.call_texts.specs.declared.halt.Halt.TheVariants.{Fault, Memory as NoMemory}
 use Rattle.call_texts.specs.Told.{Stops, StandsFor}
 use Rattle.scope_laws.specs.Agreeing.{Agree, FollowAlike}
 use Rattle.scope_laws.proofs.Bodies.{steps_by_agrees}
 use Rattle.scope_laws.proofs.Calls.{calls_agree, calls_of_templates_agree, one_agrees, templates_agree}
 use Rattle.tree_walk.specs.declared.over.Row.{Row}
-use Rattle.tree_walk.specs.Walking.{AddsHook, GivesGroups, groups_kept}
+use Rattle.tree_walk.specs.Walking.{AddsHook, GivesHalted, GivesGroups, groups_kept}
 
 module _ (m : Manifest) (A : Answers) (g : Scope) where
   -- calls with so many depths left agree with themselves
@@ -43,6 +48,31 @@ module _ (m : Manifest) (A : Answers) (g : Scope) where
       let none : stopped_before_loop place (kind_named m c.template) scope c.when ≡ None = subst (λ x. Stops place (kind_named m c.template) (Ok x) (stopped_before_loop place (kind_named m c.template) scope c.when)) on stops in
       subst (λ stop. Gives before after r (unless_stopped stop (each_made m A g (calls m A g n) prefix place scope c c.each))) (sym none)
       (subst (λ k. Gives before after r (each_made m A g (calls m A g k) prefix place scope c c.each)) less given)
+
+  -- what its condition keeps from going on is what the call makes
+  stays_so : (n : ℕ) (prefix : List ℕ) (place : Place) (scope : Scope) (c : Call) (stop : Made) (before after : ℕ) (r : Result Made TreeRefused) →
+      stopped_before_loop place (kind_named m c.template) scope c.when ≡ Some stop → Gives before after r stop → Gives before after r (calls m A g (suc n) prefix place scope c)
+  stays_so n prefix place scope c stop before after r stopped given =
+      subst (λ x. Gives before after r (unless_stopped x (each_made m A g (calls m A g n) prefix place scope c c.each))) (sym stopped) given
+
+  -- a call whose condition is false stays alone
+  pub stays_out : (left : ℕ) (prefix : List ℕ) (place : Place) (scope : Scope) (c : Call) (b : Bool) (before after : ℕ) (r : Result Made TreeRefused) → (left ≡ 0 → ⊥) → b ≡ false →
+      Stops place (kind_named m c.template) (Ok b) (stopped_before_loop place (kind_named m c.template) scope c.when) →
+      Gives before after r (alone place kind.Skipped Skipped note.WhenFalse) → Gives before after r (calls m A g left prefix place scope c)
+  stays_out zero prefix place scope c b before after r deep off stops given = absurd (deep refl)
+  stays_out (suc n) prefix place scope c b before after r deep off stops given =
+      stays_so n prefix place scope c (alone place kind.Skipped Skipped note.WhenFalse) before after r
+      (subst (λ x. Stops place (kind_named m c.template) (Ok x) (stopped_before_loop place (kind_named m c.template) scope c.when)) off stops) given
+
+  -- and so does one whose condition has a fault
+  pub halts : (left : ℕ) (prefix : List ℕ) (place : Place) (scope : Scope) (c : Call) (h : Halt) (before after : ℕ) (r : Result Made TreeRefused) → (left ≡ 0 → ⊥) →
+      Stops place (kind_named m c.template) (Err h) (stopped_before_loop place (kind_named m c.template) scope c.when) →
+      GivesHalted before after r place (kind_named m c.template) h → Gives before after r (calls m A g left prefix place scope c)
+  halts zero prefix place scope c h before after r deep stops given = absurd (deep refl)
+  halts (suc n) prefix place scope c (Fault fault) before after r deep stops given =
+      stays_so n prefix place scope c (alone place (kind_named m c.template) Error fault) before after r stops given
+  halts (suc n) prefix place scope c NoMemory before after r deep stops given =
+      subst (λ x. Gives before after x (calls m A g (suc n) prefix place scope c)) (sym given) tt
 
   module _ (left : ℕ) where
     abbrev called : Caller

@@ -1,9 +1,9 @@
 mod Calling
-mod Dags
+pub mod Dags
 pub mod Groups
 mod Hooking
 mod Index
 pub mod Rooms
 mod Sums
-mod Tasks
+pub mod Tasks
 mod Walkable

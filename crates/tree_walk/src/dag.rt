@@ -19,7 +19,7 @@ use dag_template::Verdict;
 use meaning::Place;
 use recorded::Recorded;
 use scopes::Scope;
-use tree_state::{Room, State, TreeRefused};
+use tree_state::{Room, Shared, State, TreeRefused};
 use wf_manifest::{Dag, OutputDecls, Task};
 
 impl<R: Recorded> Walk<'_, R> {
@@ -160,6 +160,7 @@ impl<R: Recorded> Walk<'_, R> {
         }
         let inner = board.scope_before(self.alloc(), dag, plan, i, scope)?;
         let state = self.call(Listed::Tasks, at, &inner, &task.call, left, room)?;
-        Ok(board.begin(self.alloc(), dag, plan, i, state)?)
+        let made = Shared::new(state)?;
+        Ok(board.begin(self.alloc(), dag, plan, i, made)?)
     }
 }

@@ -117,7 +117,7 @@ pub(crate) fn halted(
 }
 
 /// Whether a task that nothing holds back begins: with `failFast` exactly where its beginning is recorded.
-pub(crate) fn begins<R: Recorded>(recorded: &R, dag: &Dag, at: &Place) -> bool
+pub fn begins<R: Recorded>(recorded: &R, dag: &Dag, at: &Place) -> bool
     ensures { result ≡ (not dag.now.fail_fast || (R.answers recorded.now).begun at.now.sels) }
 {
     if !dag.fail_fast {

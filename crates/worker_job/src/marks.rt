@@ -52,6 +52,15 @@ impl Marks {
     }
 }
 
+// What a step looks for among the pods that are asked for, by the last look at each: one that was not looked at, one that had
+// ended, or one that was not there.
+#[derive(Clone, Copy, Debug)]
+pub(crate) enum Sought {
+    Unread,
+    Ended,
+    Absent,
+}
+
 // The pods that a workflow asks for, and the looks at pods.
 #[derive(Clone, Copy)]
 pub(crate) struct Pods<'a> {
@@ -113,91 +122,45 @@ impl<'a> Pods<'a> {
         }
     }
 
-    // The first pod that was not looked at, where so many from the first are known to be; and how many are.
-    pub(crate) fn find_unread(&self, known: usize) -> Option<(usize, &'a Want)>
-        ensures first { NoneAmong known (marked.unread (map look_told self.now.looks.now) self.now.object.now)
-            (pods_in (wants_of self.now.object.now))
-            → option_map (λ f. f.1.now) result
-            ≡ find (marked.unread (map look_told self.now.looks.now) self.now.object.now)
-            (pods_in (wants_of self.now.object.now)) }
-        ensures known { NoneAmong known (marked.unread (map look_told self.now.looks.now) self.now.object.now)
-            (pods_in (wants_of self.now.object.now))
-            → IfSome result (λ f.
-            NoneAmong f.0 (marked.unread (map look_told self.now.looks.now) self.now.object.now)
-            (pods_in (wants_of self.now.object.now))) }
+    // Whether it is such a pod.
+    fn fits(&self, sought: Sought, want: &Want) -> bool
+        ensures { result ≡ marked.such sought (map look_told self.now.looks.now) self.now.object.now want.now }
     {
-        let test = Unread { pods: *self };
-        self.object.state().find_pod_behind(known, &test)
-    }
-
-    // How many pods from the first were looked at, where so many are known to be.
-    fn first_unread(&self, known: usize) -> usize
-        requires known { NoneAmong known (marked.unread (map look_told self.now.looks.now) self.now.object.now)
-            (pods_in (wants_of self.now.object.now)) }
-        ensures { NoneAmong result (marked.unread (map look_told self.now.looks.now) self.now.object.now)
-            (pods_in (wants_of self.now.object.now)) }
-    {
-        match self.find_unread(known) {
-            None => usize::MAX,
-            Some((position, _)) => position,
+        match sought {
+            Sought::Unread => self.is_unread(want),
+            Sought::Ended => self.has_ended(want),
+            Sought::Absent => self.is_absent(want),
         }
     }
 
-    // The first pod that ended, where so many from the first are known not to have; and how many have not.
-    pub(crate) fn find_ended(&self, known: usize) -> Option<(usize, &'a Want)>
-        ensures first { NoneAmong known (marked.ended (map look_told self.now.looks.now) self.now.object.now)
+    // The first such pod, where so many from the first are known to be none; and how many are none.
+    pub(crate) fn find(&self, sought: Sought, known: usize) -> Option<(usize, &'a Want)>
+        ensures first { NoneAmong known (marked.such sought (map look_told self.now.looks.now) self.now.object.now)
             (pods_in (wants_of self.now.object.now))
             → option_map (λ f. f.1.now) result
-            ≡ find (marked.ended (map look_told self.now.looks.now) self.now.object.now)
+            ≡ find (marked.such sought (map look_told self.now.looks.now) self.now.object.now)
             (pods_in (wants_of self.now.object.now)) }
-        ensures known { NoneAmong known (marked.ended (map look_told self.now.looks.now) self.now.object.now)
+        ensures known { NoneAmong known (marked.such sought (map look_told self.now.looks.now) self.now.object.now)
             (pods_in (wants_of self.now.object.now))
             → IfSome result (λ f.
-            NoneAmong f.0 (marked.ended (map look_told self.now.looks.now) self.now.object.now)
+            NoneAmong f.0 (marked.such sought (map look_told self.now.looks.now) self.now.object.now)
             (pods_in (wants_of self.now.object.now))) }
     {
-        let test = Ended { pods: *self };
+        let test = Such {
+            pods: *self,
+            sought,
+        };
         self.object.state().find_pod_behind(known, &test)
     }
 
-    // How many pods from the first did not end.
-    fn first_ended(&self, known: usize) -> usize
-        requires known { NoneAmong known (marked.ended (map look_told self.now.looks.now) self.now.object.now)
+    // How many pods from the first are no such pods, where so many are known to be none.
+    fn first(&self, sought: Sought, known: usize) -> usize
+        requires known { NoneAmong known (marked.such sought (map look_told self.now.looks.now) self.now.object.now)
             (pods_in (wants_of self.now.object.now)) }
-        ensures { NoneAmong result (marked.ended (map look_told self.now.looks.now) self.now.object.now)
-            (pods_in (wants_of self.now.object.now)) }
-    {
-        match self.find_ended(known) {
-            None => usize::MAX,
-            Some((position, _)) => position,
-        }
-    }
-
-    // The first pod that is noted as absent, where so many from the first are known not to be; and how many are not.
-    pub(crate) fn find_absent(&self, known: usize) -> Option<(usize, &'a Want)>
-        ensures first { NoneAmong known (marked.absent (map look_told self.now.looks.now) self.now.object.now)
-            (pods_in (wants_of self.now.object.now))
-            → option_map (λ f. f.1.now) result
-            ≡ find (marked.absent (map look_told self.now.looks.now) self.now.object.now)
-            (pods_in (wants_of self.now.object.now)) }
-        ensures known { NoneAmong known (marked.absent (map look_told self.now.looks.now) self.now.object.now)
-            (pods_in (wants_of self.now.object.now))
-            → IfSome result (λ f.
-            NoneAmong f.0 (marked.absent (map look_told self.now.looks.now) self.now.object.now)
-            (pods_in (wants_of self.now.object.now))) }
-    {
-        let test = Absent { pods: *self };
-        self.object.state().find_pod_behind(known, &test)
-    }
-
-    // How many pods from the first are not noted as absent.
-    fn first_absent(&self, known: usize) -> usize
-        requires known { NoneAmong known (marked.absent (map look_told self.now.looks.now) self.now.object.now)
-            (pods_in (wants_of self.now.object.now)) }
-        ensures { NoneAmong result (marked.absent (map look_told self.now.looks.now) self.now.object.now)
+        ensures { NoneAmong result (marked.such sought (map look_told self.now.looks.now) self.now.object.now)
             (pods_in (wants_of self.now.object.now)) }
     {
-        match self.find_absent(known) {
+        match self.find(sought, known) {
             None => usize::MAX,
             Some((position, _)) => position,
         }
@@ -208,11 +171,11 @@ impl<'a> Pods<'a> {
         requires { marked.IsMarked (map look_told self.now.looks.now) self.now.object.now marks }
         ensures { marked.IsMarked (map look_told self.now.looks.now) self.now.object.now result }
     {
-        let read = self.first_unread(marks.read);
+        let read = self.first(Sought::Unread, marks.read);
         if read < usize::MAX {
             return Marks { read, ..marks };
         }
-        let settled = self.first_ended(marks.settled);
+        let settled = self.first(Sought::Ended, marks.settled);
         if settled < usize::MAX {
             return Marks {
                 read,
@@ -220,7 +183,7 @@ impl<'a> Pods<'a> {
                 ..marks
             };
         }
-        let created = self.first_absent(marks.created);
+        let created = self.first(Sought::Absent, marks.created);
         Marks {
             read,
             settled,
@@ -229,47 +192,18 @@ impl<'a> Pods<'a> {
     }
 }
 
-// A pod that was not looked at.
+// Such a pod.
 #[derive(Clone, Copy)]
-struct Unread<'a> {
+struct Such<'a> {
     pods: Pods<'a>,
+    sought: Sought,
 }
 
-impl WantTest for Unread<'_> {
+impl WantTest for Such<'_> {
     ghost accepts = { λ test want.
-        marked.unread (map look_told test.pods.looks.now) test.pods.object.now want };
+        marked.such test.sought (map look_told test.pods.looks.now) test.pods.object.now want };
 
     fn accepts(&self, want: &Want) -> bool {
-        self.pods.is_unread(want)
-    }
-}
-
-// A pod that ended when it was looked at.
-#[derive(Clone, Copy)]
-struct Ended<'a> {
-    pods: Pods<'a>,
-}
-
-impl WantTest for Ended<'_> {
-    ghost accepts = { λ test want.
-        marked.ended (map look_told test.pods.looks.now) test.pods.object.now want };
-
-    fn accepts(&self, want: &Want) -> bool {
-        self.pods.has_ended(want)
-    }
-}
-
-// A pod that was noted as absent.
-#[derive(Clone, Copy)]
-struct Absent<'a> {
-    pods: Pods<'a>,
-}
-
-impl WantTest for Absent<'_> {
-    ghost accepts = { λ test want.
-        marked.absent (map look_told test.pods.looks.now) test.pods.object.now want };
-
-    fn accepts(&self, want: &Want) -> bool {
-        self.pods.is_absent(want)
+        self.pods.fits(self.sought, want)
     }
 }

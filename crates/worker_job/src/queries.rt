@@ -12,6 +12,7 @@ ghost use Rattle.next_step.specs.Next.{get};
 ghost use Rattle.worker_job.specs.Inside.Marks.{IsMarked};
 ghost use Rattle.worker_job.specs.Readings as reads;
 
+use crate::marks::Sought;
 use crate::reading::Reading;
 use base_types::Text;
 use memo_cache::Cache;
@@ -110,7 +111,7 @@ impl<'a> Reading<'a> {
         ensures { option_map (λ n. get (of_key.Pod (reads.workflow self.now) n.now)) result
             ≡ reads.asked self.now (reads.reading self.now) }
     {
-        match self.pods().find_unread(self.marks.read) {
+        match self.pods().find(Sought::Unread, self.marks.read) {
             None => None,
             Some((_, want)) => self.unlooked(want),
         }
@@ -122,7 +123,7 @@ impl<'a> Reading<'a> {
         ensures { option_map (λ f. record_fact (fact.Settled f.0.now f.1.now)) result
             ≡ reads.asked self.now (reads.settling self.now) }
     {
-        match self.pods().find_ended(self.marks.settled) {
+        match self.pods().find(Sought::Ended, self.marks.settled) {
             None => None,
             Some((_, want)) => self.finished(want),
         }
@@ -172,7 +173,7 @@ impl<'a> Reading<'a> {
         ensures { option_map (λ n. create n.0.now n.1.now) result
             ≡ reads.asked self.now (reads.creating self.now) }
     {
-        match self.pods().find_absent(self.marks.created) {
+        match self.pods().find(Sought::Absent, self.marks.created) {
             None => None,
             Some((_, want)) => self.noted(want),
         }

@@ -3,9 +3,9 @@ use Rattle.std.specs.Prelude.{◌≡◌, ℕ, ◌+◌, cond, List, [], ◌∷◌
 use Rattle.tree_types.specs.declared.entry.Key.{Key}
 use Rattle.tree_types.specs.declared.entry.Entry.{Entry}
 use Rattle.history.specs.History.{History, Event, event, clock_of}
-use Rattle.object_store.specs.declared.line.Made.{Made}
 use Rattle.object_store.specs.Entries.{is_making}
 use Rattle.object_store.specs.Versions.{versions}
+use Rattle.object_store.specs.Inside.Rows.{Rows, Held}
 
 module _ {C : Type 0} where
   abbrev pub first_in : List (Key × C) → Option C
@@ -32,9 +32,9 @@ making_in [] = 0
 making_in (e ∷ es) = cond (is_making e) (making_in es + 1) (making_in es)
 
 module _ {C : Type 0} (apply : C → Entry → Option C) where
-  -- each object that was not there at first was made by an entry, the index has the versions of each object, and the
-  -- clock is the history's
-  pub record Kept (begun : ℕ) (firsts : List (Key × C)) (line : Key → List (Made C)) (entries : List Entry) (clock : ℕ) : Type 0 where
+  -- each object that was not there at first was made by an entry, the versions of each object can be made again, and
+  -- the clock is the history's
+  pub record Kept (begun : ℕ) (firsts : List (Key × C)) (line : Key → Option (Rows C)) (entries : List Entry) (clock : ℕ) : Type 0 where
     pub counted : length firsts ≡ begun + making_in entries
-    pub held : (k : Key) → line k ≡ versions apply (history_of begun firsts entries) k
+    pub held : (k : Key) → Held apply entries (line k) (versions apply (history_of begun firsts entries) k)
     pub clock_is : clock ≡ clock_of (history_of begun firsts entries)

@@ -1,8 +1,8 @@
 -- What is kept of the lines below a node: how many nodes and pods stand there, and which kinds of lines.
-use Rattle.std.specs.Prelude.{Bool, true, ◌||◌, ◌+◌, List, length}
+use Rattle.std.specs.Prelude.{Bool, true, ◌&&◌, ◌||◌, ◌+◌, List, length}
 use Rattle.std.specs.List.{list_any}
 use Rattle.meaning.specs.declared.lines.Line.{Line}
-use Rattle.meaning.specs.Lines.{Parts, lines_below}
+use Rattle.meaning.specs.Lines.{Parts, lines_below, row_in, all_finished}
 use Rattle.meaning.specs.Trees.{wants_in, beginnings_in}
 use Rattle.tree_state.specs.declared.kinds.WantKind.{WantKind}
 use Rattle.tree_state.specs.declared.kinds.WantKind.TheVariants.{Pod, Lock, LookUp, Arming, Timer, Save}
@@ -51,9 +51,11 @@ abbrev pub sum_of : Parts → Sum
 sum_of p = record {
   nodes = count_below p;
   pods = length (pods_in (wants_in (lines_below p)));
+  calls = length (row_in p);
+  finished = all_finished (row_in p);
   asks = asks_in (lines_below p);
 }
 
 -- with so much more
 abbrev pub sum_with : Sum → Sum → Sum
-sum_with s t = record { nodes = s.nodes + t.nodes; pods = s.pods + t.pods; asks = both_ask s.asks t.asks }
+sum_with s t = record { nodes = s.nodes + t.nodes; pods = s.pods + t.pods; calls = s.calls + t.calls; finished = s.finished && t.finished; asks = both_ask s.asks t.asks }

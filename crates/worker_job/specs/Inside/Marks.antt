@@ -11,6 +11,8 @@ use Rattle.law.specs.Justified.{wants_of}
 use Rattle.next_step.specs.Views.{Seen, Look, is_look, found_in}
 use Rattle.worker_job.specs.declared.job.SeenPod.{SeenPod}
 use Rattle.worker_job.specs.declared.marks.Marks.{Marks}
+use Rattle.worker_job.specs.declared.marks.Sought.{Sought}
+use Rattle.worker_job.specs.declared.marks.Sought.TheVariants.{Unread, Ended, Absent}
 
 -- the name of a pod that is asked for
 abbrev pub pod_name : Flow → Want → Option Text
@@ -44,6 +46,11 @@ ended ls f a = looks_so (λ o. has_ended (found_in o)) ls f a
 -- it was not there
 abbrev pub absent : List Look → Flow → Want → Bool
 absent ls f a = looks_so notes_absent ls f a
+
+abbrev pub such : Sought → List Look → Flow → Want → Bool
+such Unread = unread
+such Ended = ended
+such Absent = absent
 
 -- ---- marks
 

@@ -1,21 +1,21 @@
-use Rattle.std.proofs.Common.{[], ◌∷◌, ◌++◌, refl, sym, ap, append-nil, ◌∙◌, Result, Ok, Err, OnErr}
-use Rattle.object_store.proofs.Index.{appended}
+use Rattle.std.proofs.Common.{sym, Result, Ok, Err, OnOk, OnErr}
+use Rattle.object_store.proofs.Index.{appended, unchanged}
 use Rattle.object_store.proofs.ledger.append.Goals as goal
 
-on_err : {T E : Type 0} (r : Result T E) (P : Type 0) → P → OnErr r P
-on_err (Ok x) P p = tt
-on_err (Err e) P p = p
+on_ok : {T E : Type 0} (r : Result T E) (A B : Type 0) → OnOk r A → (A → B) → OnOk r B
+on_ok (Ok x) A B a to = to a
+on_ok (Err e) A B a to = tt
 
-pub returns-in_err-try_reserve-clause-err : goal.returns-in_err-try_reserve-clause-err
-returns-in_err-try_reserve-clause-err g c =
-    on_err c.from_residual.result _
-    (appended c.args.objects.now.entries _ c.args.key.now c.in-Some.line.now _ [] (sym c.in-Some.ensures.value) refl (c.try_reserve.ensures.items ∙ sym (append-nil c.in-Some.line.now.later.items)) (c.get_mut.follows.holds _).0)
-
-pub returns-in_err-push-clause-err : goal.returns-in_err-push-clause-err
-returns-in_err-push-clause-err g c =
-    on_err c.from_residual-in_err-push.result _
-    (appended c.args.objects.now.entries _ c.args.key.now c.in-Some.line.now _ [] (sym c.in-Some.ensures.value) refl (c.try_reserve.ensures.items ∙ sym (append-nil c.in-Some.line.now.later.items)) (c.get_mut.follows.holds _).0)
+on_err : {T E : Type 0} (r : Result T E) (A B : Type 0) → OnErr r A → (A → B) → OnErr r B
+on_err (Ok x) A B a to = tt
+on_err (Err e) A B a to = to a
 
 pub returns-clause-ok : goal.returns-clause-ok
 returns-clause-ok g c =
-    appended c.args.objects.now.entries _ c.args.key.now c.in-Some.line.now _ (c.args.made ∷ []) (sym c.in-Some.ensures.value) refl (c.push_reserved.ensures.items ∙ ap (λ ms. ms ++ c.args.made ∷ []) c.try_reserve.ensures.items) (c.get_mut.follows.holds _).0
+    on_ok c.add.result _ _ c.add.ensures.ok
+    (λ more. appended c.args.objects.now.entries _ c.args.key.now c.in-Some.line.now c.add.new.self c.args.made _ (sym c.in-Some.ensures.value) more (c.get_mut.follows.holds _).0)
+
+pub returns-clause-err : goal.returns-clause-err
+returns-clause-err g c =
+    on_err c.add.result _ _ c.add.ensures.err
+    (λ same. unchanged c.args.objects.now.entries _ c.args.key.now c.in-Some.line.now c.add.new.self (sym c.in-Some.ensures.value) same (c.get_mut.follows.holds _).0)

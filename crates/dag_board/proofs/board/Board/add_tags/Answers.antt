@@ -1,5 +1,5 @@
 -- The tags of what the task made.
-use Rattle.std.proofs.Common.{◌≡◌, ◌++◌, List, ℕ, Option, Some, None, sym, subst, ◌∙◌, ◌<◌}
+use Rattle.std.proofs.Common.{◌≡◌, ◌++◌, List, ℕ, Option, Some, None, sym, ap, subst, ◌∙◌, ◌<◌}
 use Rattle.std.specs.Prelude.{codes}
 use Rattle.std.proofs.lemmas.List.{get_or_default}
 use Rattle.scopes.specs.Values.{HasValuesOf}
@@ -24,5 +24,5 @@ returns-in-Some c =
     ((n : Made) → n.own.node ≡ c.node.result.now → HasValuesOf new (tags_of (codes "tasks." ++ c.get.result.now.call.name) n ++ old))
     (HasValuesOf new (made_tags (name_at c.args.dag.now.tasks p) (state_at b p) ++ old))
     (λ h. subst (λ (x : Option Made). HasValuesOf new (made_tags (name_at c.args.dag.now.tasks p) x ++ old)) (sym state)
-    (subst (λ (n : List ℕ). HasValuesOf new (tags_of (codes "tasks." ++ n) m ++ old)) (sym name) (h m (sym c.node.ensures))))
+    (subst (λ (n : List ℕ). HasValuesOf new (tags_of (codes "tasks." ++ n) m ++ old)) (sym name) (h m (sym (c.node.ensures ∙ ap (λ (x : Made). x.own.node) c.state.ensures)))))
     c.add_tags_of.ensures

@@ -1,7 +1,10 @@
 -- A task that exists is shown.
-use Rattle.std.proofs.Common.{◌<◌, ℕ, length, sym, subst}
+use Rattle.std.proofs.Common.{◌<◌, ℕ, [], length, sym, ap, ◌∙◌, subst}
 use Rattle.std.specs.List.{All}
 use Rattle.task_order.specs.Orders.{waited}
+use Rattle.meaning.specs.Lines.{Made}
+use Rattle.meaning.specs.Dags.{exists}
+use Rattle.dag_template.specs.Stands.{sight}
 use Rattle.dag_template.proofs.Places.{places_low}
 use Rattle.dag_template.proofs.Ordered.{task_at}
 use Rattle.dag_board.proofs.Reaching.{ancestors_low}
@@ -25,7 +28,7 @@ returns c =
     let low = places_low d.tasks (waited task.0) c.as_slice.result.now at in
     existing_is_shown d c.args.plan.now c.requires.plan old c.put.new.self c.rounds_settle.ensures c.args.i c.get.result.now c.as_slice.result.now
     c.get.ensures c.as_slice.ensures c.args.branch c.args.state c.stand_existing-stand.result c.in_ok-before.before
-    c.stand_existing-stand.ensures c.in_ok-before.ensures
+    (c.stand_existing-stand.ensures ∙ ap (λ (m : Made). sight (exists m c.args.branch [])) c.state.ensures) c.in_ok-before.ensures
     (subst (All (λ p. p < length d.tasks)) (sym c.in_ok-before.ensures)
     (ancestors_low old (length d.tasks) c.as_slice.result.now low c.requires.fits.within))
     c.put.ensures

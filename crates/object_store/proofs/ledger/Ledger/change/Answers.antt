@@ -3,7 +3,8 @@ use Rattle.std.specs.Prelude.{None}
 use Rattle.history.specs.History.{event, grown, version_at}
 use Rattle.object_store.specs.Inside.Lines.{line_at, firsts}
 use Rattle.object_store.specs.Inside.Kept.{Kept, history_of}
-use Rattle.object_store.proofs.Keeping.{kept_changing, kept_same, grown_changing}
+use Rattle.object_store.proofs.Keeping.{kept_changing, grown_changing}
+use Rattle.object_store.proofs.Rows.{none_held}
 use Rattle.object_store.proofs.Seen.{some_stands}
 use Rattle.object_store.proofs.ledger.Ledger.change.Goals as goal
 
@@ -18,7 +19,7 @@ on_ok (Err e) A B K a b ok = tt
 
 pub append-requires : goal.append-requires
 append-requires g c = λ none.
-    some_stands g.C.Content.apply _ c.args.self.now c.args.from.now.key _ c.self.view_is c.requires.unmoved (sym (c.self.invariant.held c.args.from.now.key) ∙ none)
+    some_stands g.C.Content.apply _ c.args.self.now c.args.from.now.key _ c.self.view_is c.requires.unmoved (none_held g.C.Content.apply c.self.inside.entries (line_at c.self.inside.objects.entries c.args.from.now.key) _ (c.self.invariant.held c.args.from.now.key) none)
 
 pub invariant_of-self : goal.invariant_of-self
 invariant_of-self g c =
@@ -31,10 +32,9 @@ invariant_of-self g c =
     (λ appends added.
     rw added (subst (λ fs. Kept apply s.begun fs (line_at new) (s.entries ++ c.args.change ∷ []) s.clock) (sym appends.same)
     (kept_changing apply s.begun (firsts s.objects.entries) (line_at s.objects.entries) s.entries s.clock c.self.invariant c.args.change from.key
-    record { number = from.version; content = from.content } c.args.next (line_at new) c.requires.entry (ap (λ h. version_at apply h from.key) c.self.view_is ∙ c.requires.unmoved) c.requires.leads appends.lines)))
-    (λ appends same.
-    rw same (subst (λ fs. Kept apply s.begun fs (line_at new) s.entries s.clock) (sym appends.same)
-    (kept_same apply s.begun (firsts s.objects.entries) (line_at s.objects.entries) s.entries s.clock c.self.invariant from.key (line_at new) appends.lines)))
+    record { number = from.version; content = from.content } c.args.next (line_at new) c.requires.entry (ap (λ h. version_at apply h from.key) c.self.view_is ∙ c.requires.unmoved) c.requires.leads
+    appends.from appends.to appends.was appends.more appends.lines)))
+    (λ unmoved same. rw same (subst (λ os. Kept apply s.begun (firsts os) (line_at os) s.entries s.clock) (sym unmoved) c.self.invariant))
 
 pub returns-clause-ok : goal.returns-clause-ok
 returns-clause-ok g c =

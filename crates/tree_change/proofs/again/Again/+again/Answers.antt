@@ -1,12 +1,12 @@
 -- What a walk that is made again gives.
-use Rattle.std.proofs.Common.{rules, suc, ◌≡◌, ℕ, ◌+◌, ◌<◌, ◌≤◌, List, [], ◌∷◌, ◌++◌, length, drop, Ok, Err, codes, refl, sym, ap, ◌∙◌, subst, arith, IsTrue, All}
+use Rattle.std.proofs.Common.{rules, suc, get_or, take, Result, ◌≡◌, ℕ, ◌+◌, ◌<◌, ◌≤◌, List, [], ◌∷◌, ◌++◌, length, drop, Ok, Err, codes, refl, sym, ap, ◌∙◌, subst, arith, IsTrue, All}
 use Rattle.std.specs.Prelude.{option_copied, slice_get}
 use Rattle.wf_manifest.proofs.Each.{All-from_list_all}
 use Rattle.fanout.specs.Items.{is_whole}
-use Rattle.tree_types.specs.declared.path.Sel.TheVariants.{Group, Item}
+use Rattle.tree_types.specs.declared.path.Sel.TheVariants.{Group, Item, Task as task_sel}
 use Rattle.meaning.specs.declared.lines.Place.{Place}
 use Rattle.meaning.specs.Answers.{Sels}
-use Rattle.meaning.specs.Lines.{Made, numbered}
+use Rattle.meaning.specs.Lines.{Made, row_in, numbered}
 use Rattle.meaning.specs.Steps.{Member, members, members_at, makings, member_place, group_place, group_made, groups_from, steps_made}
 use Rattle.meaning.specs.Calls.{item_made, template_made, hooked, saving, calls}
 use Rattle.locality.proofs.OffPath.{apart_on_way}
@@ -16,10 +16,20 @@ use Rattle.tree_walk.specs.Walkable.{IsNamed}
 use Rattle.tree_walk.specs.Walking.{GivesRow, GivesGroups, label_of, prefix_of}
 use Rattle.tree_change.proofs.Beside.{same_below, item_beside, member_beside, group_beside, group_were, groups_were, is_there, numbered_here, numbered_low, group_stood, groups_stood}
 use Rattle.tree_change.proofs.Calling.{alike, called_enters, item_done, hooked_longer, count_saving, steps_done, one_again, looped_was, looped_again, items_were, template_was, item_was}
-use Rattle.tree_change.proofs.Changing.{steps_template_again, steps_template_saved}
+use Rattle.tree_change.proofs.Changing.{steps_template_again, steps_template_saved, dag_were, dag_template_again, dag_template_saved}
 use Rattle.tree_change.proofs.Given.{some_same}
 use Rattle.tree_walk.proofs.Groups.{member_at, members_row, members_calls, turn, group_done, groups_fail, groups_room, groups_next, groups_stop}
 use Rattle.tree_walk.proofs.Rooms.{gives_as, by_err, part_fails, row_next, row_stops, row_done, room_after, few_in_row, long_more}
+use Rattle.meaning.specs.Dags.{task_place, standings, dag_made}
+use Rattle.locality.specs.Answered.{SameBut}
+use Rattle.tree_state.specs.declared.refused.TreeRefused.{TreeRefused}
+use Rattle.dag_board.specs.Boards.{IsBoard, IsTurn, stands_at, seen_by}
+use Rattle.dag_board.specs.Turns.{Tells}
+use Rattle.dag_board.proofs.Writing.{waiting_is_shown}
+use Rattle.tree_walk.specs.Inside.Tasks.{stood_count, count_at, GivesTask, GivesBoard}
+use Rattle.tree_walk.proofs.Tasks.{got, is_low, task_waits, stands_free, task_omitted, task_no_room, task_ready, task_begun, task_fails, tasks_next, tasks_fail}
+use Rattle.tree_walk.proofs.Dags.{named_at, dag_fails, dag_done}
+use Rattle.tree_change.proofs.Tasks.{walkable_dag, begins_now, stays_as, inner_as, same_inside, was_inside}
 use Rattle.tree_change.proofs.again.Again.+again.Goals as goal
 
 -- ---- calls
@@ -439,3 +449,310 @@ members-returns g t c =
     let row = members_row called c.args.group.now c.args.scope.now 0 c.args.calls.now in
     subst (λ ms. GivesRow c.args.room.now c.loop-call.room (Ok c.loop-call.states) ms) (sym row)
     (row_done made c.loop-call.states c.loop-call.j c.args.calls.now c.args.room.now c.loop-call.room past c.loop-call.invariant.told c.loop-call.invariant.room)
+
+-- ---- DAGs
+
+pub other-dag-requires : goal.other-dag-requires
+other-dag-requires g t c κs within =
+    let m = c.args.self.now.walk.manifest.now in
+    let A = g.R.Recorded.answers c.args.self.now.walk.recorded.now in
+    let B = g.R.Recorded.answers c.args.self.now.before.now in
+    let scopes = c.args.self.now.walk.globals.now in
+    let called = calls m A scopes c.args.left in
+    let u = c.args.template.now in
+    let same = subst (λ (r : Sels). SameBut A B (c.args.place.sels ++ r)) c.in-Some.ensures.path c.requires.same in
+    let was = dag_were m A B (c.args.place.sels ++ c.args.rest.now) c.requires.same scopes c.args.left c.args.place c.args.scope.now u c.in-Some.dag.now c.args.old.now c.requires.was c.requires.runs c.in-Some.ensures.dag in
+    (omega arith, (within, (c.requires.ready, (walkable_dag u c.in-Some.dag.now c.requires.walkable c.in-Some.ensures.dag, (c.requires.shallow, (same, was))))))
+
+pub other-missed_dag-requires : goal.other-missed_dag-requires
+other-missed_dag-requires g t c κs within =
+    let m = c.args.self.now.walk.manifest.now in
+    let A = g.R.Recorded.answers c.args.self.now.walk.recorded.now in
+    let B = g.R.Recorded.answers c.args.self.now.before.now in
+    let scopes = c.args.self.now.walk.globals.now in
+    let called = calls m A scopes c.args.left in
+    let u = c.args.template.now in
+    let same = subst (λ (r : Sels). SameBut A B (c.args.place.sels ++ r)) c.in-Some.ensures.path c.requires.same in
+    let was = dag_were m A B (c.args.place.sels ++ c.args.rest.now) c.requires.same scopes c.args.left c.args.place c.args.scope.now u c.in-Some.dag.now c.args.old.now c.requires.was c.requires.runs c.in-Some.ensures.dag in
+    (omega arith, (within, (c.requires.ready, (walkable_dag u c.in-Some.dag.now c.requires.walkable c.in-Some.ensures.dag, (c.requires.shallow, (same, was))))))
+
+pub other-returns-in_default-memoize : goal.other-returns-in_default-memoize
+other-returns-in_default-memoize g t c =
+    let m = c.args.self.now.walk.manifest.now in
+    let A = g.R.Recorded.answers c.args.self.now.walk.recorded.now in
+    let B = g.R.Recorded.answers c.args.self.now.before.now in
+    let scopes = c.args.self.now.walk.globals.now in
+    let called = calls m A scopes c.args.left in
+    let u = c.args.template.now in
+    let changed = c.args.place.sels ++ c.args.rest.now in
+    let apart = apart_on_way A B changed c.requires.same c.args.place.sels c.in-Some.others.now (task_sel c.in-Some.j) (ap (λ (r : Sels). c.args.place.sels ++ r) c.in-Some.ensures.path) in
+    let made = dag_template_again m A B changed c.requires.same scopes c.args.left c.args.place c.args.scope.now u c.in-Some.dag.now c.args.old.now c.requires.was c.requires.runs c.in-Some.ensures.dag c.in_default-memoize.is apart in
+    gives_as c.args.room.now c.dag.new.room c.dag.result (dag_made A called c.args.place c.args.scope.now u.outputs c.in-Some.dag.now) (template_made A called c.args.place c.args.scope.now u) (sym made) c.dag.ensures
+
+pub other-returns-in-Ok : goal.other-returns-in-Ok
+other-returns-in-Ok g t c =
+    let m = c.args.self.now.walk.manifest.now in
+    let A = g.R.Recorded.answers c.args.self.now.walk.recorded.now in
+    let B = g.R.Recorded.answers c.args.self.now.before.now in
+    let scopes = c.args.self.now.walk.globals.now in
+    let called = calls m A scopes c.args.left in
+    let u = c.args.template.now in
+    let changed = c.args.place.sels ++ c.args.rest.now in
+    let apart = apart_on_way A B changed c.requires.same c.args.place.sels c.in-Some.others.now (task_sel c.in-Some.j) (ap (λ (r : Sels). c.args.place.sels ++ r) c.in-Some.ensures.path) in
+    let made = dag_template_saved m A B changed c.requires.same scopes c.args.left c.args.place c.args.scope.now u c.in-Some.dag.now c.in-Some-memoize.memoize c.in-Ok.key c.args.old.now c.requires.was c.requires.runs c.in-Some.ensures.dag c.in-Some-memoize.is c.in-Ok.ensures apart in
+    gives_as c.args.room.now c.missed_dag.new.room c.missed_dag.result (saving c.args.place c.in-Some-memoize.memoize c.in-Ok.key (dag_made A called c.args.place c.args.scope.now u.outputs c.in-Some.dag.now)) (template_made A called c.args.place c.args.scope.now u) (sym made) c.missed_dag.ensures
+
+pub missed_dag-returns-in_err-state : goal.missed_dag-returns-in_err-state
+missed_dag-returns-in_err-state g t c =
+    let m = c.args.self.now.walk.manifest.now in
+    let A = g.R.Recorded.answers c.args.self.now.walk.recorded.now in
+    let scopes = c.args.self.now.walk.globals.now in
+    let b = dag_made A (calls m A scopes c.args.left) c.args.place c.args.scope.now c.args.declared.now c.args.dag.now in
+    let whole = saving c.args.place c.args.memoize.now c.args.key b in
+    by_err (λ r. Gives c.args.room.now c.dag.new.room r whole) c.from_residual-in_err-state.result c.in_err-state.field-0.0 c.from_residual-in_err-state.ensures.1
+    (part_fails c.args.room.now c.dag.new.room b whole c.in_err-state.field-0.0 (omega (arith, count_saving c.args.place c.args.memoize.now c.args.key b)) c.in_err-state.ensures)
+
+pub missed_dag-returns : goal.missed_dag-returns
+missed_dag-returns g t c =
+    let m = c.args.self.now.walk.manifest.now in
+    let A = g.R.Recorded.answers c.args.self.now.walk.recorded.now in
+    let scopes = c.args.self.now.walk.globals.now in
+    let b = dag_made A (calls m A scopes c.args.left) c.args.place c.args.scope.now c.args.declared.now c.args.dag.now in
+    let given = c.in_ok-state.ensures in (
+      c.in_ok-saving.ensures c.args.place (sym c.in_ok-at.ensures) ∙ ap (λ (x : Made). saving c.args.place c.args.memoize.now c.args.key x) given.0,
+      omega (arith, count_saving c.args.place c.args.memoize.now c.args.key b, given.1),
+    )
+
+pub dag-tasks-requires : goal.dag-tasks-requires
+dag-tasks-requires g t c κs within =
+    let m = c.args.self.now.walk.manifest.now in
+    let A = g.R.Recorded.answers c.args.self.now.walk.recorded.now in
+    let B = g.R.Recorded.answers c.args.self.now.before.now in
+    let scopes = c.args.self.now.walk.globals.now in
+    let called = calls m A scopes c.args.left in
+    let were = c.in_ok-were.ensures m B scopes c.args.left c.args.place c.args.scope.now c.args.declared.now (c.in_ok-before.ensures ∙ ap (λ (b : Made). row_in b.parts) c.requires.was) c.len.ensures in
+    (omega arith, (within, (c.requires.ready, (c.requires.walkable, (c.in_ok-plan.ensures, (c.requires.shallow, (c.requires.same, were)))))))
+
+pub dag-returns-in_err-board : goal.dag-returns-in_err-board
+dag-returns-in_err-board g t c =
+    let m = c.args.self.now.walk.manifest.now in
+    let A = g.R.Recorded.answers c.args.self.now.walk.recorded.now in
+    let scopes = c.args.self.now.walk.globals.now in
+    let called = calls m A scopes c.args.left in
+    let whole = dag_made A called c.args.place c.args.scope.now c.args.declared.now c.args.dag.now in
+    by_err (λ r. Gives c.args.room.now c.tasks.new.room r whole) c.from_residual-in_err-board.result c.in_err-board.field-0.0 c.from_residual-in_err-board.ensures.1
+    (dag_fails A called c.args.place c.args.scope.now c.args.dag.now c.args.declared.now c.in_ok-plan.plan c.args.room.now c.take.new.self c.tasks.new.room c.in_err-board.field-0.0 c.in_ok-plan.ensures c.in_ok-take.ensures.takes c.in_err-board.ensures)
+
+pub dag-made-requires-clause-named : goal.dag-made-requires-clause-named
+dag-made-requires-clause-named g t c = named_at c.args.dag.now.tasks c.requires.walkable.named
+
+pub dag-returns : goal.dag-returns
+dag-returns g t c =
+    let m = c.args.self.now.walk.manifest.now in
+    let A = g.R.Recorded.answers c.args.self.now.walk.recorded.now in
+    let scopes = c.args.self.now.walk.globals.now in
+    let called = calls m A scopes c.args.left in
+    dag_done A called c.args.place c.args.scope.now c.args.dag.now c.args.declared.now c.in_ok-plan.plan c.in_ok-board.board c.args.room.now c.take.new.self c.tasks.new.room c.in_ok-made.field-0 c.in_ok-plan.ensures c.in_ok-take.ensures.takes c.in_ok-board.ensures c.in_ok-made.ensures
+
+pub task-returns-in_err-take-in-Denied : goal.task-returns-in_err-take-in-Denied
+task-returns-in_err-take-in-Denied g t c =
+    let m = c.args.self.now.walk.manifest.now in
+    let A = g.R.Recorded.answers c.args.self.now.walk.recorded.now in
+    let scopes = c.args.self.now.walk.globals.now in
+    let called = calls m A scopes c.args.left in
+    let i = c.get-i.result.now in
+    let here = got c.args.plan.now.order c.args.k i c.get-i.ensures in
+    let turn : IsTurn c.args.dag.now c.args.plan.now c.args.k i c.get-task.result.now = record { low = c.requires.low; here = here; task = c.get-task.ensures } in
+    let tells = subst (λ v. Tells c.args.dag.now c.args.plan.now c.args.board.now i v) c.in-Denied.is c.in_ok-verdict.ensures in
+    let GivesIt = λ (r : Result (Unit {0}) TreeRefused) (n : ℕ). GivesTask c.args.room.now c.take.new.self r (IsBoard A called c.args.place.now c.args.scope.now c.args.dag.now (take (suc c.args.k) c.args.plan.now.order) c.args.board.now) (stood_count (stands_at A called c.args.place.now c.args.scope.now c.args.dag.now n)) in
+    by_err (λ r. GivesIt r (get_or c.args.plan.now.order c.args.k 0)) c.from_residual-in_err-take-in-Denied.result c.in_err-take-in-Denied.field-0.0 c.from_residual-in_err-take-in-Denied.ensures.1
+    (subst (λ n. GivesIt (Err c.in_err-take-in-Denied.field-0.0) n) (sym here)
+    (task_no_room A called (alike m A scopes c.args.left) c.args.place.now c.args.scope.now c.args.dag.now c.args.plan.now c.args.k i c.get-task.result.now turn c.args.board.now c.args.board.now c.in-Denied.branch c.args.room.now c.take.new.self c.in_err-take-in-Denied.field-0.0 c.requires.board tells c.in_err-take-in-Denied.ensures.takes))
+
+pub task-omit-requires-clause-place : goal.task-omit-requires-clause-place
+task-omit-requires-clause-place g t c = is_low c.args.dag.now.tasks c.get-i.result.now c.get-task.result.now c.get-task.ensures
+
+pub task-omit-requires-clause-named : goal.task-omit-requires-clause-named
+task-omit-requires-clause-named g t c = named_at c.args.dag.now.tasks c.requires.walkable.named c.get-i.result.now
+
+pub task-freed-requires : goal.task-freed-requires
+task-freed-requires g t c κs within =
+    let m = c.args.self.now.walk.manifest.now in
+    let A = g.R.Recorded.answers c.args.self.now.walk.recorded.now in
+    let scopes = c.args.self.now.walk.globals.now in
+    let called = calls m A scopes c.args.left in
+    let i = c.get-i.result.now in
+    let here = got c.args.plan.now.order c.args.k i c.get-i.ensures in
+    let turn : IsTurn c.args.dag.now c.args.plan.now c.args.k i c.get-task.result.now = record { low = c.requires.low; here = here; task = c.get-task.ensures } in
+    let tells = subst (λ v. Tells c.args.dag.now c.args.plan.now c.args.board.now i v) c.in-Holds.is c.in_ok-verdict.ensures in
+    let free = stands_free A called (alike m A scopes c.args.left) c.args.place.now c.args.scope.now c.args.dag.now c.args.plan.now c.args.k i c.get-task.result.now turn c.args.board.now c.requires.board tells in
+    let place = is_low c.args.dag.now.tasks i c.get-task.result.now c.get-task.ensures in
+    (omega arith, (within, (c.requires.ready, (c.requires.walkable, (c.requires.plan, (turn, (c.requires.board, (free, (place, (omega (arith, c.requires.shallow), (c.requires.same, c.requires.were)))))))))))
+
+pub task-returns-in-Waits : goal.task-returns-in-Waits
+task-returns-in-Waits g t c =
+    let m = c.args.self.now.walk.manifest.now in
+    let A = g.R.Recorded.answers c.args.self.now.walk.recorded.now in
+    let scopes = c.args.self.now.walk.globals.now in
+    let called = calls m A scopes c.args.left in
+    let i = c.get-i.result.now in
+    let here = got c.args.plan.now.order c.args.k i c.get-i.ensures in
+    let turn : IsTurn c.args.dag.now c.args.plan.now c.args.k i c.get-task.result.now = record { low = c.requires.low; here = here; task = c.get-task.ensures } in
+    subst (λ n. (IsBoard A called c.args.place.now c.args.scope.now c.args.dag.now (take (suc c.args.k) c.args.plan.now.order) c.args.board.now) × (c.args.room.now + (stood_count (stands_at A called c.args.place.now c.args.scope.now c.args.dag.now n)) ≡ c.args.room.now)) (sym here)
+    (task_waits A called (alike m A scopes c.args.left) c.args.place.now c.args.scope.now c.args.dag.now c.args.plan.now c.args.k i c.get-task.result.now turn c.args.board.now c.args.room.now c.in_ok-verdict.field-0 waiting_is_shown c.requires.plan c.requires.board c.in-Waits.is c.in_ok-verdict.ensures)
+
+pub task-returns-in_ok-omit-in-Denied : goal.task-returns-in_ok-omit-in-Denied
+task-returns-in_ok-omit-in-Denied g t c =
+    let m = c.args.self.now.walk.manifest.now in
+    let A = g.R.Recorded.answers c.args.self.now.walk.recorded.now in
+    let scopes = c.args.self.now.walk.globals.now in
+    let called = calls m A scopes c.args.left in
+    let i = c.get-i.result.now in
+    let here = got c.args.plan.now.order c.args.k i c.get-i.ensures in
+    let turn : IsTurn c.args.dag.now c.args.plan.now c.args.k i c.get-task.result.now = record { low = c.requires.low; here = here; task = c.get-task.ensures } in
+    let tells = subst (λ v. Tells c.args.dag.now c.args.plan.now c.args.board.now i v) c.in-Denied.is c.in_ok-verdict.ensures in
+    subst (λ n. (IsBoard A called c.args.place.now c.args.scope.now c.args.dag.now (take (suc c.args.k) c.args.plan.now.order) c.omit.new.self) × (c.take.new.self + (stood_count (stands_at A called c.args.place.now c.args.scope.now c.args.dag.now n)) ≡ c.args.room.now)) (sym here)
+    (task_omitted A called (alike m A scopes c.args.left) c.args.place.now c.args.scope.now c.args.dag.now c.args.plan.now c.args.k i c.get-task.result.now turn c.args.board.now c.omit.new.self c.in-Denied.branch c.args.room.now c.take.new.self c.requires.board tells c.in_ok-take-in-Denied.ensures.takes c.in_ok-omit-in-Denied.ensures)
+
+pub task-returns-in-Holds : goal.task-returns-in-Holds
+task-returns-in-Holds g t c =
+    let m = c.args.self.now.walk.manifest.now in
+    let A = g.R.Recorded.answers c.args.self.now.walk.recorded.now in
+    let scopes = c.args.self.now.walk.globals.now in
+    let called = calls m A scopes c.args.left in
+    let i = c.get-i.result.now in
+    let here = got c.args.plan.now.order c.args.k i c.get-i.ensures in
+    let turn : IsTurn c.args.dag.now c.args.plan.now c.args.k i c.get-task.result.now = record { low = c.requires.low; here = here; task = c.get-task.ensures } in
+    subst (λ n. GivesTask c.args.room.now c.freed.new.room c.freed.result (IsBoard A called c.args.place.now c.args.scope.now c.args.dag.now (take (suc c.args.k) c.args.plan.now.order) c.freed.new.board) (stood_count (stands_at A called c.args.place.now c.args.scope.now c.args.dag.now n))) (sym here) c.freed.ensures
+
+pub tasks-loop-k-init : goal.tasks-loop-k-init
+tasks-loop-k-init g t c =
+    let m = c.args.self.now.walk.manifest.now in
+    let A = g.R.Recorded.answers c.args.self.now.walk.recorded.now in
+    let scopes = c.args.self.now.walk.globals.now in
+    let called = calls m A scopes c.args.left in
+    record { shown = c.in_ok-board.ensures A called c.args.place.now c.args.scope.now; room = omega arith }
+
+pub tasks-returns-in_err-task : goal.tasks-returns-in_err-task
+tasks-returns-in_err-task g t c =
+    let m = c.args.self.now.walk.manifest.now in
+    let A = g.R.Recorded.answers c.args.self.now.walk.recorded.now in
+    let scopes = c.args.self.now.walk.globals.now in
+    let called = calls m A scopes c.args.left in
+    let low : c.loop-k.k < length c.args.plan.now.order = search rules in
+    by_err (λ r. GivesBoard A called c.args.place.now c.args.scope.now c.args.dag.now c.args.plan.now.order c.args.room.now c.task.new.room r) c.from_residual-in_err-task.result c.in_err-task.field-0.0 c.from_residual-in_err-task.ensures.1
+    (tasks_fail A called c.args.place.now c.args.scope.now c.args.dag.now c.args.plan.now c.loop-k.k c.loop-k.room c.args.room.now c.task.new.room (IsBoard A called c.args.place.now c.args.scope.now c.args.dag.now (take (suc c.loop-k.k) c.args.plan.now.order) c.task.new.board) c.in_err-task.field-0.0 low c.loop-k.invariant.room c.in_err-task.ensures)
+
+pub tasks-loop-k-preserved : goal.tasks-loop-k-preserved
+tasks-loop-k-preserved g t c =
+    let m = c.args.self.now.walk.manifest.now in
+    let A = g.R.Recorded.answers c.args.self.now.walk.recorded.now in
+    let scopes = c.args.self.now.walk.globals.now in
+    let called = calls m A scopes c.args.left in
+    let low : c.loop-k.k < length c.args.plan.now.order = search rules in
+    let n = stood_count (stands_at A called c.args.place.now c.args.scope.now c.args.dag.now (get_or c.args.plan.now.order c.loop-k.k 0)) in
+    let step : suc c.loop-k.k ≡ c.loop-k.k + 1 = omega arith in
+    record {
+      shown = subst (λ k. IsBoard A called c.args.place.now c.args.scope.now c.args.dag.now (take k c.args.plan.now.order) c.task.new.board) step c.in_ok-task.ensures.0;
+      room = subst (λ k. c.task.new.room + count_at (standings A called c.args.place.now c.args.scope.now c.args.dag.now) (take k c.args.plan.now.order) ≡ c.args.room.now) step (tasks_next A called c.args.place.now c.args.scope.now c.args.dag.now c.args.plan.now c.loop-k.k c.loop-k.room c.args.room.now c.task.new.room n low c.loop-k.invariant.room refl c.in_ok-task.ensures.1);
+    }
+
+pub freed-begun-requires : goal.freed-begun-requires
+freed-begun-requires g t c κs within =
+    let m = c.args.self.now.walk.manifest.now in
+    let A = g.R.Recorded.answers c.args.self.now.walk.recorded.now in
+    let B = g.R.Recorded.answers c.args.self.now.before.now in
+    let scopes = c.args.self.now.walk.globals.now in
+    let called = calls m A scopes c.args.left in
+    let seen = seen_by A called c.args.place.now c.args.scope.now c.args.dag.now c.args.task.now in
+    let begun = begins_now A called c.args.place.now c.in_ok-at.at c.args.scope.now c.args.dag.now c.args.i c.args.task.now (stands_at A called c.args.place.now c.args.scope.now c.args.dag.now c.args.i) seen c.begins.result c.requires.free c.in_ok-at.ensures c.begins.ensures c.if-not-begins.false in
+    (omega arith, (within, (c.requires.ready, (c.requires.plan, (c.requires.turn, (c.requires.board, (begun, (c.requires.place, (c.in_ok-at.ensures, (c.requires.shallow, (c.requires.same, c.requires.were)))))))))))
+
+pub freed-returns-then-not-begins : goal.freed-returns-then-not-begins
+freed-returns-then-not-begins g t c =
+    let m = c.args.self.now.walk.manifest.now in
+    let A = g.R.Recorded.answers c.args.self.now.walk.recorded.now in
+    let B = g.R.Recorded.answers c.args.self.now.before.now in
+    let scopes = c.args.self.now.walk.globals.now in
+    let called = calls m A scopes c.args.left in
+    task_ready A called (alike m A scopes c.args.left) c.args.place.now c.args.scope.now c.args.dag.now c.args.plan.now c.args.k c.args.i c.args.task.now c.requires.turn c.in_ok-at.at c.in_ok-at.ensures c.requires.free c.begins.result c.begins.ensures c.args.board.now c.set_ready.new.self c.args.room.now c.if-not-begins.true c.requires.board c.set_ready.ensures
+
+pub freed-returns-in_err-made : goal.freed-returns-in_err-made
+freed-returns-in_err-made g t c =
+    let m = c.args.self.now.walk.manifest.now in
+    let A = g.R.Recorded.answers c.args.self.now.walk.recorded.now in
+    let B = g.R.Recorded.answers c.args.self.now.before.now in
+    let scopes = c.args.self.now.walk.globals.now in
+    let called = calls m A scopes c.args.left in
+    let seen = seen_by A called c.args.place.now c.args.scope.now c.args.dag.now c.args.task.now in
+    let inner = seen ++ c.args.scope.now in
+    let here = ap (λ (p : Place). called (codes "tasks.") p inner c.args.task.now.call) (sym c.in_ok-at.ensures) in
+    by_err (λ r. GivesTask c.args.room.now c.begun.new.room r (IsBoard A called c.args.place.now c.args.scope.now c.args.dag.now (take (suc c.args.k) c.args.plan.now.order) c.args.board.now) (stood_count (stands_at A called c.args.place.now c.args.scope.now c.args.dag.now c.args.i))) c.from_residual-in_err-made.result c.in_err-made.field-0.0 c.from_residual-in_err-made.ensures.1
+    (task_fails A called (alike m A scopes c.args.left) c.args.place.now c.args.scope.now c.args.dag.now c.args.plan.now c.args.k c.args.i c.args.task.now c.requires.turn c.in_ok-at.at c.in_ok-at.ensures c.requires.free c.begins.result c.begins.ensures c.if-not-begins.false inner (λ tag. refl) c.args.board.now c.args.room.now c.begun.new.room c.in_err-made.field-0.0
+    (gives_as c.args.room.now c.begun.new.room (Err c.in_err-made.field-0.0) (called (codes "tasks.") (task_place c.args.place.now c.args.i c.args.task.now) inner c.args.task.now.call) (called (codes "tasks.") c.in_ok-at.at inner c.args.task.now.call) here c.in_err-made.ensures))
+
+pub freed-returns : goal.freed-returns
+freed-returns g t c =
+    let m = c.args.self.now.walk.manifest.now in
+    let A = g.R.Recorded.answers c.args.self.now.walk.recorded.now in
+    let B = g.R.Recorded.answers c.args.self.now.before.now in
+    let scopes = c.args.self.now.walk.globals.now in
+    let called = calls m A scopes c.args.left in
+    let seen = seen_by A called c.args.place.now c.args.scope.now c.args.dag.now c.args.task.now in
+    let inner = seen ++ c.args.scope.now in
+    let here = ap (λ (p : Place). called (codes "tasks.") p inner c.args.task.now.call) (sym c.in_ok-at.ensures) in
+    task_begun A called (alike m A scopes c.args.left) c.args.place.now c.args.scope.now c.args.dag.now c.args.plan.now c.args.k c.args.i c.args.task.now c.requires.turn c.in_ok-at.at c.in_ok-at.ensures c.requires.free c.begins.result c.begins.ensures c.if-not-begins.false inner (λ tag. refl) c.args.board.now c.begin.new.self c.in_ok-made.made c.args.room.now c.begun.new.room c.requires.board
+    (gives_as c.args.room.now c.begun.new.room (Ok c.in_ok-made.made) (called (codes "tasks.") (task_place c.args.place.now c.args.i c.args.task.now) inner c.args.task.now.call) (called (codes "tasks.") c.in_ok-at.at inner c.args.task.now.call) here c.in_ok-made.ensures)
+    c.in_ok-begin.ensures
+
+pub begun-returns-in-Some : goal.begun-returns-in-Some
+begun-returns-in-Some g t c =
+    let m = c.args.self.now.walk.manifest.now in
+    let A = g.R.Recorded.answers c.args.self.now.walk.recorded.now in
+    let B = g.R.Recorded.answers c.args.self.now.before.now in
+    let scopes = c.args.self.now.walk.globals.now in
+    let called = calls m A scopes c.args.left in
+    let seen = seen_by A called c.args.place.now c.args.scope.now c.args.dag.now c.args.task.now in
+    gives_as c.args.room.now c.shared.new.room c.shared.result c.in-Some.old.now (called (codes "tasks.") (task_place c.args.place.now c.args.i c.args.task.now) (seen ++ c.args.scope.now) c.args.task.now.call)
+    (stays_as m A B scopes c.args.left c.args.place.now c.args.scope.now c.args.dag.now c.args.plan.now c.requires.plan c.args.j c.args.were.now c.requires.were c.args.rest.now c.requires.same c.args.i c.args.task.now c.requires.turn.task c.in-Some.old.now c.in-Some.ensures c.requires.begun)
+    c.shared.ensures
+
+pub begun-returns-in_err-state : goal.begun-returns-in_err-state
+begun-returns-in_err-state g t c =
+    let m = c.args.self.now.walk.manifest.now in
+    let A = g.R.Recorded.answers c.args.self.now.walk.recorded.now in
+    let B = g.R.Recorded.answers c.args.self.now.before.now in
+    let scopes = c.args.self.now.walk.globals.now in
+    let called = calls m A scopes c.args.left in
+    let seen = seen_by A called c.args.place.now c.args.scope.now c.args.dag.now c.args.task.now in
+    let whole = called (codes "tasks.") (task_place c.args.place.now c.args.i c.args.task.now) (seen ++ c.args.scope.now) c.args.task.now.call in
+    let values = c.in_ok-inner.ensures A called c.args.place.now c.args.scope.now c.args.k c.args.task.now c.requires.board c.requires.turn in
+    by_err (λ r. Gives c.args.room.now c.inside.new.room r whole) c.from_residual-in_err-state.result c.in_err-state.field-0.0 c.from_residual-in_err-state.ensures.1
+    (gives_as c.args.room.now c.inside.new.room (Err c.in_err-state.field-0.0) (called (codes "tasks.") c.args.at c.in_ok-inner.inner c.args.task.now.call) whole
+    (inner_as m A B scopes c.args.left c.args.place.now c.args.scope.now c.args.dag.now c.args.plan.now c.requires.plan c.args.j c.args.were.now c.requires.were c.args.rest.now c.requires.same c.args.i c.args.task.now c.requires.turn.task c.args.at c.requires.at c.in_ok-inner.inner values) c.in_err-state.ensures)
+
+pub begun-returns : goal.begun-returns
+begun-returns g t c =
+    let m = c.args.self.now.walk.manifest.now in
+    let A = g.R.Recorded.answers c.args.self.now.walk.recorded.now in
+    let B = g.R.Recorded.answers c.args.self.now.before.now in
+    let scopes = c.args.self.now.walk.globals.now in
+    let called = calls m A scopes c.args.left in
+    let seen = seen_by A called c.args.place.now c.args.scope.now c.args.dag.now c.args.task.now in
+    let whole = called (codes "tasks.") (task_place c.args.place.now c.args.i c.args.task.now) (seen ++ c.args.scope.now) c.args.task.now.call in
+    let values = c.in_ok-inner.ensures A called c.args.place.now c.args.scope.now c.args.k c.args.task.now c.requires.board c.requires.turn in
+    let done = gives_as c.args.room.now c.inside.new.room (Ok c.in_ok-state.state) (called (codes "tasks.") c.args.at c.in_ok-inner.inner c.args.task.now.call) whole
+    (inner_as m A B scopes c.args.left c.args.place.now c.args.scope.now c.args.dag.now c.args.plan.now c.requires.plan c.args.j c.args.were.now c.requires.were c.args.rest.now c.requires.same c.args.i c.args.task.now c.requires.turn.task c.args.at c.requires.at c.in_ok-inner.inner values) c.in_ok-state.ensures in
+    (c.in_ok-new.ensures ∙ done.0, done.1)
+
+pub inside-call-requires-2 : goal.inside-call-requires-2
+inside-call-requires-2 g t c κs within =
+    let m = c.args.self.now.walk.manifest.now in
+    let A = g.R.Recorded.answers c.args.self.now.walk.recorded.now in
+    let B = g.R.Recorded.answers c.args.self.now.before.now in
+    let scopes = c.args.self.now.walk.globals.now in
+    let called = calls m A scopes c.args.left in
+    let same = same_inside m A B scopes c.args.left c.args.place.now c.args.scope.now c.args.dag.now c.args.plan.now c.requires.plan c.args.j c.args.were.now c.requires.were c.args.rest.now c.requires.same c.args.i c.args.task.now c.requires.task c.args.at c.requires.at c.args.inner.now c.requires.values c.in-Some.old.now c.in-Some.ensures in
+    let was = c.state-before.ensures ∙ was_inside m A B scopes c.args.left c.args.place.now c.args.scope.now c.args.dag.now c.args.plan.now c.requires.plan c.args.j c.args.were.now c.requires.were c.args.rest.now c.requires.same c.args.i c.args.task.now c.requires.task c.args.at c.requires.at c.args.inner.now c.requires.values c.in-Some.old.now c.in-Some.ensures in
+    let depth : c.args.at.depth ≡ suc c.args.place.now.depth = ap (λ (p : Place). p.depth) c.requires.at in
+    (omega arith, (within, (c.requires.ready, (omega (arith, depth, c.requires.shallow), (same, was)))))

@@ -1,8 +1,11 @@
 -- How the calls of a walk that is made again go down, and what its loops keep.
-use Rattle.std.proofs.Common.{◌≡◌, ◌+◌, ◌*◌, ◌≤◌, ◌++◌, length, drop}
+use Rattle.std.proofs.Common.{◌≡◌, ◌+◌, ◌*◌, ◌≤◌, ◌++◌, length, take, drop}
 use Rattle.meaning.specs.Lines.{numbered}
 use Rattle.meaning.specs.Steps.{groups_from}
+use Rattle.meaning.specs.Dags.{standings}
 use Rattle.meaning.specs.Calls.{calls, item_made}
+use Rattle.dag_board.specs.Boards.{IsBoard}
+use Rattle.tree_walk.specs.Inside.Tasks.{count_at}
 use Rattle.row_states.specs.Rows.{count_row}
 use Rattle.scope_laws.specs.Agreeing.{GroupsAlike}
 use Rattle.tree_walk.specs.Walking.{prefix_of}
@@ -96,4 +99,40 @@ invariant-groups-loop-calls g l =
       long : length l.row.states ≡ l.i;
       room : l.room + count_row l.row.states ≡ l.fn.room;
       as_before : l.i ≤ l.j → drop l.i l.old ≡ (groups_from (calls m B scopes l.left) l.place l.i l.row.scope (drop l.i l.groups)).all;
+    }
+
+abbrev pub decreases-other : goal.decreases-other
+decreases-other g l = 32 * l.left + 11
+
+abbrev pub decreases-missed_dag : goal.decreases-missed_dag
+decreases-missed_dag g l = 32 * l.left + 9
+
+abbrev pub decreases-dag : goal.decreases-dag
+decreases-dag g l = 32 * l.left + 8
+
+abbrev pub decreases-tasks : goal.decreases-tasks
+decreases-tasks g l = 32 * l.left + 7
+
+abbrev pub decreases-task : goal.decreases-task
+decreases-task g l = 32 * l.left + 6
+
+abbrev pub decreases-freed : goal.decreases-freed
+decreases-freed g l = 32 * l.left + 5
+
+abbrev pub decreases-begun : goal.decreases-begun
+decreases-begun g l = 32 * l.left + 4
+
+abbrev pub decreases-inside : goal.decreases-inside
+decreases-inside g l = 32 * l.left + 2
+
+-- the tasks before this one in the order are gone through
+abbrev pub invariant-tasks-loop-k : goal.invariant-tasks-loop-k
+invariant-tasks-loop-k g l =
+    let m = l.self.walk.manifest.now in
+    let A = g.R.Recorded.answers l.self.walk.recorded.now in
+    let scopes = l.self.walk.globals.now in
+    let called = calls m A scopes l.left in
+    record {
+      shown : IsBoard A called l.place l.scope l.dag (take l.k l.plan.order) l.board;
+      room : l.room + count_at (standings A called l.place l.scope l.dag) (take l.k l.plan.order) ≡ l.fn.room;
     }

@@ -1,4 +1,3 @@
--- The wants of the node, and of what stands below it.
 use Rattle.std.proofs.Common.{ap, ◌∙◌}
 use Rattle.meaning.specs.Lines.{Made, lines_in}
 use Rattle.tree_state.specs.declared.sum.Sum.{Sum}
@@ -11,5 +10,5 @@ pub returns : goal.returns
 returns c =
     let old = c.self.inside in
     c.and.ensures
-    ∙ asks_over (made_of old) c.asks_of_node.result old.sum.asks c.asks_of_node.ensures (ap (λ (s : Sum). s.asks) c.self.invariant)
+    ∙ asks_over (made_of old) c.asks_of_node.result c.sum.result.asks c.asks_of_node.ensures (ap (λ (s : Sum). s.asks) c.sum.ensures)
     ∙ ap (λ (m : Made). asks_in (lines_in m)) c.self.view_is

@@ -7,10 +7,10 @@ use Rattle.meaning.specs.Steps.{members, makings, groups_from}
 use Rattle.meaning.specs.Calls.{kind_named, item_made, body_made, template_made, hooked, remembered, saving, hook_runs, calls}
 use Rattle.tree_state.specs.Counting.{Gives, count}
 use Rattle.row_states.specs.Rows.{count_row}
-use Rattle.tree_walk.specs.Walking.{GivesRow, GivesGroups, hook_depth, label_of, prefix_of}
+use Rattle.tree_walk.specs.Walking.{GivesRow, GivesHalted, GivesGroups, hook_depth, label_of, prefix_of}
 use Rattle.tree_walk.proofs.Rooms.{by_err, part_fails, row_next, row_stops, row_done, room_after, few_in_row, long_more}
 use Rattle.tree_walk.proofs.Groups.{member_at, member_here, members_row, members_calls, turn, group_done, groups_begin, groups_done, groups_fail, groups_room, groups_next, groups_stop}
-use Rattle.tree_walk.proofs.Calling.{alike, goes_deeper, called_enters, item_done, hooked_longer, hook_done, count_saving, steps_done}
+use Rattle.tree_walk.proofs.Calling.{alike, goes_deeper, stays_out, halts, called_enters, item_done, hooked_longer, hook_done, count_saving, steps_done}
 use Rattle.tree_state.specs.declared.refused.TreeRefused.{TreeRefused}
 use Rattle.meaning.specs.Dags.{standings, dag_made}
 use Rattle.dag_board.specs.Boards.{IsBoard, IsTurn, stands_at}
@@ -28,6 +28,21 @@ call-returns-in-Ok-true g t c =
     let scopes = c.args.self.now.globals.now in
     let kind = kind_named m c.args.call.now.template in
     goes_deeper m A scopes c.args.left (prefix_of c.args.of) c.args.place c.args.scope.now c.args.call.now c.in-Ok-true.field-0 c.args.room.now c.each.new.room c.each.result c.if-left-eq0.false c.in-Ok-true.field-0-test (c.in-Ok-true.ensures c.args.place kind) c.each.ensures
+
+pub call-returns-in-Ok-false : goal.call-returns-in-Ok-false
+call-returns-in-Ok-false g t c =
+    let m = c.args.self.now.manifest.now in
+    let A = g.R.Recorded.answers c.args.self.now.recorded.now in
+    let scopes = c.args.self.now.globals.now in
+    stays_out m A scopes c.args.left (prefix_of c.args.of) c.args.place c.args.scope.now c.args.call.now c.in-Ok-false.field-0 c.args.room.now c.lone-in-Ok-false.new.room c.lone-in-Ok-false.result c.if-left-eq0.false c.in-Ok-false.field-0-test (c.in-Ok-false.ensures c.args.place (kind_named m c.args.call.now.template)) c.lone-in-Ok-false.ensures
+
+pub call-returns-in-Err : goal.call-returns-in-Err
+call-returns-in-Err g t c =
+    let m = c.args.self.now.manifest.now in
+    let A = g.R.Recorded.answers c.args.self.now.recorded.now in
+    let scopes = c.args.self.now.globals.now in
+    halts m A scopes c.args.left (prefix_of c.args.of) c.args.place c.args.scope.now c.args.call.now c.in-Err.halt c.args.room.now c.halted.new.room c.halted.result c.if-left-eq0.false (c.in-Err.ensures c.args.place (kind_named m c.args.call.now.template))
+    (subst (λ k. GivesHalted c.args.room.now c.halted.new.room c.halted.result c.args.place k c.in-Err.halt) c.kind_named-kind.ensures c.halted.ensures)
 
 pub called-returns-in-Ok : goal.called-returns-in-Ok
 called-returns-in-Ok g t c =
@@ -332,7 +347,7 @@ freed-returns g t c =
     let A = g.R.Recorded.answers c.args.self.now.recorded.now in
     let scopes = c.args.self.now.globals.now in
     let called = calls m A scopes c.args.left in
-    task_begun A called (alike m A scopes c.args.left) c.args.place.now c.args.scope.now c.args.dag.now c.args.plan.now c.args.k c.args.i c.args.task.now c.requires.turn c.in_ok-at.at c.in_ok-at.ensures c.requires.free c.begins.result c.begins.ensures c.if-not-begins.false c.in_ok-inner.inner (c.in_ok-inner.ensures A called c.args.place.now c.args.scope.now c.args.k c.args.task.now c.requires.board c.requires.turn) c.args.board.now c.begin.new.self c.in_ok-state.state c.args.room.now c.call.new.room c.requires.board c.in_ok-state.ensures c.in_ok-begin.ensures
+    task_begun A called (alike m A scopes c.args.left) c.args.place.now c.args.scope.now c.args.dag.now c.args.plan.now c.args.k c.args.i c.args.task.now c.requires.turn c.in_ok-at.at c.in_ok-at.ensures c.requires.free c.begins.result c.begins.ensures c.if-not-begins.false c.in_ok-inner.inner (c.in_ok-inner.ensures A called c.args.place.now c.args.scope.now c.args.k c.args.task.now c.requires.board c.requires.turn) c.args.board.now c.begin.new.self c.in_ok-made.made c.args.room.now c.call.new.room c.requires.board (c.in_ok-made.ensures ∙ c.in_ok-state.ensures.0, c.in_ok-state.ensures.1) c.in_ok-begin.ensures
 
 pub task-returns-in_err-take-in-Denied : goal.task-returns-in_err-take-in-Denied
 task-returns-in_err-take-in-Denied g t c =

@@ -1,0 +1,6 @@
+pub mod Marks
+pub mod Placed
+pub mod Found
+pub mod Stays
+pub mod Begun
+mod Told

@@ -1,0 +1,6 @@
+pub mod Unmoved
+pub mod ByTask
+pub mod Knowing
+pub use Rattle.dag_plan.specs.Plans
+pub use Rattle.dag_board.specs.Boards
+pub use Rattle.locality.specs.Answered

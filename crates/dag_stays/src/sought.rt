@@ -1,0 +1,68 @@
+//! What the tasks of a DAG made, found among the calls below its node.
+
+ghost use Rattle.std.specs.Prelude.{◌≡◌, slice_get, IfOk};
+ghost use Rattle.dag_stays.specs.ByTask as spec;
+
+use base_types::{List, Memory, TryCopy};
+use std::alloc::Global;
+use tree_state::{Shared, State};
+use tree_types::Sel;
+
+// Whether a call is the task at a position of a DAG whose path has so many selectors.
+fn is_of_task(call: &State, depth: usize, i: usize) -> bool
+    ensures { result ≡ spec.is_of_task depth i call.now }
+{
+    match call.node().path.sels.as_slice().get(depth) {
+        Some(Sel::Task(n)) => *n as usize == i,
+        _ => false,
+    }
+}
+
+// The call at a position, if it is the task.
+fn task_at(
+    calls: &List<Shared>,
+    at: usize,
+    depth: usize,
+    i: usize,
+) -> Result<Option<Shared>, Memory>
+    ensures { IfOk result (λ one. one ≡ spec.task_if depth i (slice_get calls.now at)) }
+{
+    match calls.as_slice().get(at) {
+        Some(call) => {
+            if is_of_task(call.state(), depth, i) {
+                Ok(Some(call.copy()?))
+            } else {
+                Ok(None)
+            }
+        }
+        None => Ok(None),
+    }
+}
+
+fn one_if(found: &Option<Shared>) -> usize
+    ensures { result ≡ spec.one_if found.now }
+{
+    match found {
+        None => 0,
+        Some(_) => 1,
+    }
+}
+
+/// What so many tasks made, by their positions: of the calls below a DAG whose path has so many selectors.
+pub(crate) fn by_task(
+    alloc: Global,
+    calls: &List<Shared>,
+    depth: usize,
+    count: usize,
+) -> Result<Vec<Option<Shared>>, Memory>
+    ensures { IfOk result (λ found. found.items ≡ spec.by_task depth 0 count calls.now) }
+{
+    let mut found = Vec::with_capacity(alloc, count)?;
+    let mut at: usize = 0;
+    for i in 0..count {
+        let one = task_at(calls, at, depth, i)?;
+        at += one_if(&one);
+        found.push(one)?;
+    }
+    Ok(found)
+}

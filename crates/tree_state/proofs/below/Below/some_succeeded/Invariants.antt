@@ -1,0 +1,10 @@
+-- What is left, and what is read of it.
+use Rattle.std.proofs.Common.{◌≡◌, drop}
+use Rattle.meaning.specs.Lines.{then_parts, row_in}
+use Rattle.tree_state.specs.Replacing.{some_succeeded}
+use Rattle.tree_state.specs.Inside.Chunks.{all_of}
+use Rattle.tree_state.proofs.below.Below.some_succeeded.Given as goal
+
+abbrev pub invariant-loop-chunk : goal.invariant-loop-chunk
+invariant-loop-chunk l =
+    some_succeeded (row_in (then_parts (all_of (drop l.chunk-index l.chunk-items)) l.self-inside.last)) ≡ some_succeeded (row_in l.self)

@@ -1,8 +1,0 @@
--- The calls so far, and those of the kids from this one on.
-use Rattle.std.proofs.Common.{◌≡◌, ◌++◌, drop}
-use Rattle.meaning.specs.Lines.{row_in}
-use Rattle.tree_state.specs.Inside.Kids.{parts_of}
-use Rattle.tree_state.proofs.state.State.calls.Given as goal
-
-abbrev pub invariant-loop-kid : goal.invariant-loop-kid
-invariant-loop-kid l = l.calls ++ row_in (parts_of (drop l.kid-index l.kid-items)) ≡ row_in l.self.parts
