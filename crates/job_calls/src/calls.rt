@@ -58,6 +58,7 @@ pub fn create<C: Client<WfContent>>(
         (C.seen client.old) (changed key 0 (event change (Some content))) (change_reply result)
         (C.seen client.new) (C.others client.old) (C.others client.new) }
     ensures key { IfOk result (λ s. s.key ≡ key) }
+    ensures content { IfOk result (λ s. s.content ≡ content) }
     ensures lag { C.lag client.new ≡ C.lag client.old }
     ensures size { length (C.seen client.new).events < 2 ^ 64 }
     ensures fault { result ≡ Err Fault →
@@ -84,6 +85,7 @@ pub fn write<C: Client<WfContent>>(
         (C.seen client.old) (changed from.now.key from.now.version (event change None)) (change_reply result)
         (C.seen client.new) (C.others client.old) (C.others client.new) }
     ensures key { IfOk result (λ s. s.key ≡ from.now.key) }
+    ensures content { IfOk result (λ s. s.content ≡ next) }
     ensures lag { C.lag client.new ≡ C.lag client.old }
     ensures size { length (C.seen client.new).events < 2 ^ 64 }
     ensures fault { result ≡ Err Fault →

@@ -1,17 +1,16 @@
 -- Why a job that nobody disturbs is undisturbed: each of its steps is the next, answered at the history that the one before
 -- left.
-use Rattle.std.proofs.Common.{◌≡◌, ℕ, zero, suc, ◌+◌, ◌≤◌, List, [], ◌∷◌, ◌++◌, length, length-append, append-nil, refl, sym, ◌∙◌, ap, ap₂, subst, Option, Some, None, Result, Ok, Err, arith}
+use Rattle.std.proofs.Common.{◌≡◌, ℕ, ◌+◌, ◌≤◌, List, [], ◌∷◌, ◌++◌, length, length-append, append-nil, refl, ◌∙◌, ap, ap₂, subst, Option, Some, None, arith}
 use Rattle.tree_types.specs.declared.entry.Key.{Key}
-use Rattle.tree_types.specs.declared.entry.Key.TheVariants.{Workflow, Pod, Locks, Caches}
 use Rattle.history.specs.History.{Version, Extends, clock_of, version_at}
 use Rattle.store_client.specs.Calls.{CountsOthers}
 use Rattle.law.specs.Documents.{Text, Document}
 use Rattle.law.specs.Contents.{Flow, Content, apply, Story}
 use Rattle.law.specs.Due.{Matter}
-use Rattle.next_step.specs.Views.{Seen, Views, nothing}
-use Rattle.next_step.specs.Next.{get, act, done, worker_next}
+use Rattle.next_step.specs.Views.{Seen, Views}
+use Rattle.next_step.specs.Next.{get, act, worker_next}
 use Rattle.next_step.specs.Changes.{change_of, AddsFor, ShownAt}
-use Rattle.next_step.specs.Replies.{Reply, found, accepted, no_object, exists, conflict, fault, Job, goes_on, ended, after, seen}
+use Rattle.next_step.specs.Replies.{Reply, found, accepted, no_object, exists, conflict, fault, goes_on, after, seen}
 use Rattle.next_step.specs.Calls.{Got, Did, Undisturbed, stays, reads, acts}
 use Rattle.next_step.specs.Backward.{seen_at, GotBack}
 use Rattle.meaning.specs.Answers.{Facts}

@@ -4,3 +4,4 @@ pub mod Stepping
 pub mod Alone
 pub mod Working
 pub mod WholeJobs
+pub mod GoingOn

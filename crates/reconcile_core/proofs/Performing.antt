@@ -1,11 +1,10 @@
 -- Why the change of an act that is next may be made, and what its answer is.
-use Rattle.std.proofs.Common.{◌≡◌, ◌≢◌, ℕ, Bool, List, [], refl, sym, ◌∙◌, ap, ap₂, subst, Option, Some, None, Result, Err}
+use Rattle.std.proofs.Common.{◌≡◌, ℕ, refl, sym, ◌∙◌, ap, ap₂, subst, Option, Some, None, Result}
 use Rattle.std.specs.Option.{MatchOption}
 use Rattle.tree_types.specs.declared.entry.Key.{Key}
-use Rattle.tree_types.specs.declared.entry.Key.TheVariants.{Workflow, Pod, Locks, Caches}
+use Rattle.tree_types.specs.declared.entry.Key.TheVariants.{Locks, Caches}
 use Rattle.meaning.specs.Answers.{Facts}
 use Rattle.history.specs.History.{Event, event, IsVersionOf}
-use Rattle.saves.specs.declared.Saved.{Saved}
 use Rattle.object_store.specs.declared.snapshot.Snapshot.{Snapshot}
 use Rattle.object_store.specs.declared.refused.StoreRefused.{StoreRefused}
 use Rattle.tree_types.specs.declared.entry.Entry.{Entry}
@@ -14,14 +13,13 @@ use Rattle.object_store.specs.Answers.{IsOf}
 use Rattle.store_client.specs.Calls.{WillBeJustified}
 use Rattle.wf_bundle.specs.declared.document.Document as bundle
 use Rattle.law.specs.Documents.{Text}
-use Rattle.law.specs.Contents.{Flow, Book, Content, OfWorkflow, OfLocks, OfCaches, apply, Story}
+use Rattle.law.specs.Contents.{Flow, Content, OfLocks, OfCaches, apply, Story}
 use Rattle.law.specs.Due.{Matter, record_fact, file, create, save, release, submit}
 use Rattle.lawful.specs.Manifests.{HasValidWorkflows}
 use Rattle.lawful.proofs.Facts.{none_some}
 use Rattle.next_step.specs.Views.{Seen, Views}
 use Rattle.next_step.specs.Next.{act, worker_next}
-use Rattle.next_step.specs.Changes.{Change, change, change_of, number_seen, AddsFor, ViewsOf}
-use Rattle.next_step.specs.Replies.{Reply}
+use Rattle.next_step.specs.Changes.{Change, change, change_of, number_seen, ViewsOf}
 use Rattle.next_laws.specs.Acts.{ActsStill, ChangeStill}
 use Rattle.reply_laws.specs.Replies.{change_reply, DidBehind}
 use Rattle.wf_object.specs.Documents.{law_of}

@@ -1,6 +1,5 @@
 -- Why the change of an act can be made: what its step has seen.
-use Rattle.std.proofs.Common.{◌≡◌, ℕ, Bool, true, false, List, [], ◌∷◌, ◌++◌, refl, sym, ◌∙◌, ap, subst, Option, Some, None, option_map, true≢false}
-use Rattle.std.specs.Option.{option_copied}
+use Rattle.std.proofs.Common.{◌≡◌, false, List, [], ◌∷◌, ◌++◌, refl, sym, ◌∙◌, ap, subst, Option, Some, None, option_map}
 use Rattle.tree_types.specs.declared.path.LockId.{LockId}
 use Rattle.tree_types.specs.declared.fact.Fact.{Fact}
 use Rattle.tree_types.specs.declared.outcome.Outputs.{Outputs}
@@ -19,10 +18,10 @@ use Rattle.law.specs.Contents.{Flow, Book, Content, OfLocks, OfCaches, save_of, 
 use Rattle.wf_object.specs.Kept.{locks_in, caches_in}
 use Rattle.worker_job.specs.Jobs.{ShownFlow, ShownBook, ShownSaves}
 use Rattle.next_step.specs.Replies.{seen}
-use Rattle.law.specs.Due.{Matter, record_fact, file, create, save, release, submit}
+use Rattle.law.specs.Due.{Matter, record_fact, file, save, release}
 use Rattle.lawful.proofs.Facts.{none_some, some_same}
 use Rattle.next_step.specs.Views.{Seen, Views}
-use Rattle.next_step.specs.Next.{get, act, next_by, worker_next}
+use Rattle.next_step.specs.Next.{act, next_by}
 use Rattle.next_step.specs.Changes.{change_of, tick_seen}
 use Rattle.next_laws.specs.Acts.{ActIsNew}
 use Rattle.next_laws.proofs.Reasons.{Reason, by_start, by_end, by_grant, by_wait, by_look, by_arming, by_timer, by_command, by_absence, by_save, by_past, by_over, reason}

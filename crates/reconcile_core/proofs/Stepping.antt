@@ -1,13 +1,11 @@
 -- Why a step of a job is the step of a hand, by what its call was answered.
-use Rattle.std.proofs.Common.{◌≡◌, ◌≢◌, ℕ, ◌+◌, Bool, true, false, List, ◌∷◌, refl, sym, ◌∙◌, ap, subst, Option, Some, None, Result, Ok, Err}
+use Rattle.std.proofs.Common.{◌≡◌, ℕ, List, ◌∷◌, refl, sym, ◌∙◌, ap, subst, Some, Result, Ok, Err}
 use Rattle.std.specs.Prelude.{IsErrAnd, []}
 use Rattle.tree_types.specs.declared.fact.Fact.{Fact}
 use Rattle.tree_types.specs.declared.entry.Key.{Key}
 use Rattle.tree_types.specs.declared.entry.Key.TheVariants.{Workflow, Pod, Locks, Caches}
 use Rattle.history.specs.History.{Extends}
 use Rattle.history.proofs.Extends.{extends_itself}
-use Rattle.object_store.specs.declared.refused.StoreRefused.{StoreRefused}
-use Rattle.object_store.specs.declared.refused.StoreRefused.TheVariants as refused
 use Rattle.store_client.specs.Calls.{CountsOthers}
 use Rattle.meaning.specs.Answers.{Facts}
 use Rattle.law.specs.Documents.{Text, Document}
@@ -16,15 +14,15 @@ use Rattle.law.specs.Due.{Matter, record_fact, IsTooLarge}
 use Rattle.next_step.specs.Views.{Seen, Views}
 use Rattle.law.specs.Contents.{Flow}
 use Rattle.next_step.specs.Next.{get, act, done, worker_next}
-use Rattle.next_step.specs.Changes.{change_of, AddsFor, ViewsOf}
-use Rattle.next_step.specs.Replies.{Reply, found, accepted, no_object, exists, conflict, fault, Job, goes_on, ended, by_refusal, after}
+use Rattle.next_step.specs.Changes.{change_of, AddsFor}
+use Rattle.next_step.specs.Replies.{Reply, found, accepted, no_object, exists, conflict, fault, Job, goes_on, ended, after}
 use Rattle.next_step.specs.Backward.{GotBack, back_of, lag_after}
-use Rattle.next_step.specs.Hands.{Given, for_flow, Hand, fresh_hand, with_job, CallNote}
-use Rattle.next_step.specs.Plays.{Stepped, gets, changes, is_full, is_done, get_note, change_note}
+use Rattle.next_step.specs.Hands.{Given, for_flow, fresh_hand, with_job}
+use Rattle.next_step.specs.Plays.{gets, changes, is_full, is_done, get_note, change_note}
 use Rattle.next_laws.proofs.Gets.{OwnKey, own_key}
-use Rattle.reply_laws.specs.Replies.{refusal, DidBehind}
-use Rattle.worker_job.specs.Jobs.{IsRead, Leaves}
-use Rattle.reconcile_core.specs.declared.answers.Ended.TheVariants.{Done, Absent}
+use Rattle.reply_laws.specs.Replies.{DidBehind}
+use Rattle.worker_job.specs.Jobs.{IsRead}
+use Rattle.reconcile_core.specs.declared.answers.Ended.TheVariants.{Done}
 use Rattle.reconcile_core.specs.declared.answers.StepDone.{StepDone}
 use Rattle.reconcile_core.specs.declared.answers.StepDone.TheVariants.{Called, Ended}
 use Rattle.reconcile_core.specs.declared.answers.ReconcileFault.{ReconcileFault}
@@ -33,7 +31,7 @@ use Rattle.tree_state.specs.declared.refused.TreeRefused.{TreeRefused}
 use Rattle.tree_state.specs.declared.refused.TreeRefused.TheVariants as of_tree
 use Rattle.reconcile_core.specs.Plans.{Plans}
 use Rattle.reconcile_core.specs.Answers.{fault_of, of_refusal, of_call}
-use Rattle.reconcile_core.specs.Hearing.{GoesOnWith, Hears}
+use Rattle.reconcile_core.specs.Hearing.{GoesOnWith}
 use Rattle.reconcile_core.specs.Steps.{StepMade, in_job, after_step, JobStepMade}
 
 -- what is read is of the job's own

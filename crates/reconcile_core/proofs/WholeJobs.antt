@@ -1,26 +1,24 @@
 -- Why the steps of a job are a whole job, which nobody disturbs where no entries of others come and nothing is read with a
 -- lag; and why it is given up.
-use Rattle.std.proofs.Common.{◌≡◌, ◌≢◌, ◌≤◌, ℕ, ◌+◌, List, [], ◌∷◌, refl, sym, ◌∙◌, ap, subst, Option, Some, None, Result, Ok, Err, arith}
+use Rattle.std.proofs.Common.{◌≡◌, ◌≢◌, ◌≤◌, ℕ, ◌+◌, List, [], ◌∷◌, refl, sym, ◌∙◌, ap, subst, None, Result, Ok, Err, arith}
 use Rattle.io_edge.specs.Cause.{Rose}
-use Rattle.tree_types.specs.declared.fact.Fact.{Fact}
 use Rattle.tree_types.specs.declared.entry.Key.{Key}
 use Rattle.tree_types.specs.declared.entry.Key.TheVariants.{Workflow, Pod, Locks, Caches}
-use Rattle.history.specs.History.{Event, Extends}
+use Rattle.history.specs.History.{Event}
 use Rattle.history.proofs.Extends.{extends_itself, extends_later}
 use Rattle.store_client.specs.Calls.{CountsOthers, StaysLawful}
-use Rattle.meaning.specs.Answers.{Facts}
 use Rattle.law.specs.Documents.{Text, Document}
-use Rattle.law.specs.Contents.{Flow, Content, Story}
-use Rattle.law.specs.Due.{Matter, record_fact, IsTooLarge}
-use Rattle.next_step.specs.Views.{Seen, Views, nothing}
+use Rattle.law.specs.Contents.{Content, Story}
+use Rattle.law.specs.Due.{record_fact}
+use Rattle.next_step.specs.Views.{Views, nothing}
 use Rattle.next_step.specs.Next.{get, act, done, worker_next}
-use Rattle.next_step.specs.Changes.{change_of, AddsFor, ViewsOf}
+use Rattle.next_step.specs.Changes.{change_of, ViewsOf}
 use Rattle.next_step.specs.Replies.{Reply, found, accepted, no_object, exists, conflict, fault, Job, Ending, goes_on, ended, after}
 use Rattle.next_step.specs.Calls.{Got, Did, Undisturbed, calls_of, stays}
 use Rattle.next_step.specs.Backward.{GotBack, back_of, lag_after}
 use Rattle.next_step.specs.Hands.{Given, for_flow, for_pod, Hand, with_job, CallNote}
 use Rattle.next_step.specs.Plays.{Stepped, has_none, gets, changes, is_full, is_done, gets_pod, finishes, ends}
-use Rattle.next_step.specs.Rounds.{WorkerEnds, by_done, by_full, by_get, by_change, JobRan, worker_ran, faults_of}
+use Rattle.next_step.specs.Rounds.{WorkerEnds, by_done, by_full, by_get, by_change, worker_ran, faults_of}
 use Rattle.next_laws.specs.Viewing.{ViewsStay}
 use Rattle.reply_laws.specs.Replies.{LeavesClient}
 use Rattle.run_laws.specs.Whole.{Told, told_by, told_of_end, Ran}
@@ -31,7 +29,7 @@ use Rattle.reconcile_core.specs.declared.answers.StepDone.TheVariants.{Idle, Cal
 use Rattle.reconcile_core.specs.declared.answers.ReconcileFault.{ReconcileFault}
 use Rattle.reconcile_core.specs.declared.answers.ReconcileFault.TheVariants as faults
 use Rattle.reconcile_core.specs.Answers.{of_refusal, of_call}
-use Rattle.reconcile_core.specs.Steps.{Tells, StepMade, in_job, after_step, JobStepMade}
+use Rattle.reconcile_core.specs.Steps.{Tells, in_job, after_step, JobStepMade}
 use Rattle.reconcile_core.specs.Reconciled.{told_of, Steps, begun, with_step, returned, JobMade, MovedOn, WouldBeTooLarge, FaultCame}
 use Rattle.reconcile_core.specs.Inside.{Going}
 use Rattle.reconcile_core.proofs.Stepping.{refusal_not_called}

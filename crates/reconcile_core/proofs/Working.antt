@@ -3,7 +3,7 @@ use Rattle.std.proofs.Common.{◌≡◌, ℕ, List, [], ◌∷◌, map, refl, sy
 use Rattle.history.proofs.Extends.{extends_itself}
 use Rattle.law.specs.Documents.{Text, Document}
 use Rattle.law.specs.Contents.{Story}
-use Rattle.next_step.specs.Views.{Views, nothing}
+use Rattle.next_step.specs.Views.{Views}
 use Rattle.next_step.specs.Changes.{ViewsOf}
 use Rattle.next_step.specs.Hands.{for_flow}
 use Rattle.next_step.specs.Plays.{has_none}

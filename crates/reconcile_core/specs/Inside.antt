@@ -1,5 +1,5 @@
 -- What speaks only of private code.
-use Rattle.std.specs.Prelude.{◌≡◌, ℕ, List, [], ◌∷◌, Option, Some, None, Result, Ok, Err}
+use Rattle.std.specs.Prelude.{◌≡◌, ℕ, List, [], ◌∷◌, Option, Some, None, Result, Ok}
 use Rattle.tree_types.specs.declared.entry.Key.{Key}
 use Rattle.history.specs.History.{Event}
 use Rattle.law.specs.Documents.{Text, Document}

@@ -4,7 +4,7 @@ use Rattle.io_edge.specs.Cause.{Rose}
 use Rattle.tree_types.specs.declared.fact.Fact.{Fact}
 use Rattle.tree_types.specs.declared.entry.Key.{Key}
 use Rattle.meaning.specs.Answers.{Facts}
-use Rattle.history.specs.History.{Event, Extends}
+use Rattle.history.specs.History.{Event}
 use Rattle.law.specs.Documents.{Text, Document}
 use Rattle.law.specs.Contents.{Flow, Content, Story}
 use Rattle.law.specs.Due.{Matter, record_fact, IsTooLarge}

@@ -1,9 +1,8 @@
 -- A worker: its jobs, of which it does the oldest, and what it has read and noted in it.
-use Rattle.std.specs.Prelude.{ℕ, List, [], ◌∷◌, ◌++◌, map, Option, Some, None}
+use Rattle.std.specs.Prelude.{ℕ, List, [], ◌∷◌, ◌++◌, map, None}
 use Rattle.law.specs.Documents.{Text}
 use Rattle.next_step.specs.Views.{Views, nothing}
 use Rattle.next_step.specs.Hands.{for_flow, Hand}
-use Rattle.worker_job.specs.Jobs.{OneJob}
 
 pub record Working : Type 0 where
   pub jobs : List Text

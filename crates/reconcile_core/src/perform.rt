@@ -71,6 +71,7 @@ pub(crate) fn perform<C: Client<WfContent>>(
         job.now.workflow job.now.views (matter_told matter.now)
         (C.seen client.old) result (C.seen client.new) (C.others client.old) (C.others client.new) }
     ensures key { IfOk result (λ s. s.key ≡ key_of job.now.workflow (matter_told matter.now)) }
+    ensures content { IfOk result (λ s. s.content ≡ plan.content) }
     ensures lag { C.lag client.new ≡ C.lag client.old }
     ensures fault { result ≡ Err Fault →
         C.rose client.old client.new × Rose (C.faults client.old) (C.faults client.new) }

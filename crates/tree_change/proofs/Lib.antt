@@ -1,3 +1,4 @@
+pub mod Asking
 mod Beside
 mod Calling
 mod Changing

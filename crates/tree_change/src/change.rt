@@ -4,13 +4,16 @@ ghost use Rattle.std.specs.Prelude.{◌≡◌, Some};
 ghost use Rattle.wf_manifest.specs.declared.calls.Loop.{Loop};
 ghost use Rattle.wf_manifest.specs.declared.templates.Body.TheVariants as body;
 ghost use Rattle.meaning.specs.Answers.{Sels};
+ghost use Rattle.meaning.specs.Lines.{lines_in};
+ghost use Rattle.tree_change.specs.Asking.{AsksNoMore};
 ghost use Rattle.tree_change.specs.Entered.{IsRunning};
-ghost use Rattle.tree_change.specs.Changes.{TopChanges, CallChanges, OneChanges, TemplateChanges, StepsChange, GroupChanges, LoopChanges};
+ghost use Rattle.tree_change.specs.Changes.{IfGiven, TopChanges, CallChanges, OneChanges, TemplateChanges, StepsChange, GroupChanges, LoopChanges};
 ghost use Rattle.tree_walk.specs.Index.{IsReady};
 
 use crate::leaf::{
     has_hook, is_bare, is_running, is_unlocked, item_at, place_of, pod_state, split,
 };
+use crate::pods::asks_no_more;
 use base_types::{Memory, Text};
 use recorded::Recorded;
 use tree_state::State;
@@ -39,7 +42,7 @@ impl<R> Drop for Change<'_, R> {
 /// path of the fact has behind the node of the entrypoint or the exit handler.
 ///
 /// There is none where more may change than the nodes on the way to the fact: where a call below ends with it that others
-/// wait for, and in some forms of call.
+/// wait for, and in some forms of call. So the nodes keep their places, and no pod is asked for that was not asked for before.
 pub fn changed_top<R: Recorded>(
     manifest: &Manifest,
     positions: &Positions,
@@ -49,7 +52,9 @@ pub fn changed_top<R: Recorded>(
     rest: &[Sel],
 ) -> Result<Option<State>, Memory>
     requires { IsReady manifest.now positions.now }
-    ensures { TopChanges manifest.now (R.answers recorded.now) old.now rest.now result template.now }
+    ensures makes { TopChanges manifest.now (R.answers recorded.now) old.now rest.now result
+        template.now }
+    ensures keeps { IfGiven result (λ new. AsksNoMore (lines_in new) (lines_in old.now)) }
 {
     let change = Change {
         manifest,
@@ -69,7 +74,8 @@ impl<R: Recorded> Change<'_, R> {
     #[cycle(change)]
     fn call(&self, old: &State, call: &Call, rest: &[Sel]) -> Result<Option<State>, Memory>
         requires { IsReady self.now.manifest.now self.now.positions.now }
-        ensures { CallChanges self.now.manifest.now (R.answers self.now.recorded.now) old.now rest.now result call.now }
+        ensures makes { CallChanges self.now.manifest.now (R.answers self.now.recorded.now) old.now rest.now result call.now }
+        ensures keeps { IfGiven result (λ new. AsksNoMore (lines_in new) (lines_in old.now)) }
     {
         if !is_running(old) {
             return Ok(None);
@@ -90,7 +96,8 @@ impl<R: Recorded> Change<'_, R> {
     #[cycle(change)]
     fn item(&self, old: &State, call: &Call, i: u32, rest: &[Sel]) -> Result<Option<State>, Memory>
         requires { IsReady self.now.manifest.now self.now.positions.now }
-        ensures { (l : Loop) → LoopChanges self.now.manifest.now (R.answers self.now.recorded.now) old.now rest.now result call.now l i }
+        ensures makes { (l : Loop) → LoopChanges self.now.manifest.now (R.answers self.now.recorded.now) old.now rest.now result call.now l i }
+        ensures keeps { IfGiven result (λ new. AsksNoMore (lines_in new) (lines_in old.now)) }
     {
         let Some(item) = old.call_at(i as usize) else {
             return Ok(None);
@@ -112,7 +119,8 @@ impl<R: Recorded> Change<'_, R> {
     #[cycle(change)]
     fn one(&self, old: &State, call: &Call, rest: &[Sel]) -> Result<Option<State>, Memory>
         requires { IsReady self.now.manifest.now self.now.positions.now }
-        ensures { OneChanges self.now.manifest.now (R.answers self.now.recorded.now) old.now rest.now result call.now }
+        ensures makes { OneChanges self.now.manifest.now (R.answers self.now.recorded.now) old.now rest.now result call.now }
+        ensures keeps { IfGiven result (λ new. AsksNoMore (lines_in new) (lines_in old.now)) }
     {
         if !is_running(old) {
             return Ok(None);
@@ -139,7 +147,8 @@ impl<R: Recorded> Change<'_, R> {
     ) -> Result<Option<State>, Memory>
         requires ready { IsReady self.now.manifest.now self.now.positions.now }
         requires runs { IsRunning old.now }
-        ensures { TemplateChanges self.now.manifest.now (R.answers self.now.recorded.now) old.now rest.now result template.now }
+        ensures makes { TemplateChanges self.now.manifest.now (R.answers self.now.recorded.now) old.now rest.now result template.now }
+        ensures keeps { IfGiven result (λ new. AsksNoMore (lines_in new) (lines_in old.now)) }
     {
         match &template.body {
             Body::Pod => self.pod(old, template),
@@ -152,7 +161,8 @@ impl<R: Recorded> Change<'_, R> {
     fn pod(&self, old: &State, template: &Template) -> Result<Option<State>, Memory>
         requires runs { IsRunning old.now }
         requires form { template.now.body ≡ body.Pod }
-        ensures { (rest : Sels) → TemplateChanges self.now.manifest.now (R.answers self.now.recorded.now) old.now rest result template.now }
+        ensures makes { (rest : Sels) → TemplateChanges self.now.manifest.now (R.answers self.now.recorded.now) old.now rest result template.now }
+        ensures keeps { IfGiven result (λ new. AsksNoMore (lines_in new) (lines_in old.now)) }
     {
         if !is_bare(template) {
             return Ok(None);
@@ -161,13 +171,20 @@ impl<R: Recorded> Change<'_, R> {
         if !is_unlocked(self.recorded, &place, template) {
             return Ok(None);
         }
-        pod_state(self.recorded, place, &template.outputs)
+        let Some(new) = pod_state(self.recorded, place, &template.outputs)? else {
+            return Ok(None);
+        };
+        if !asks_no_more(&new, old) {
+            return Ok(None);
+        }
+        Ok(Some(new))
     }
 
     #[cycle(change)]
     fn steps(&self, old: &State, groups: &Groups, rest: &[Sel]) -> Result<Option<State>, Memory>
         requires { IsReady self.now.manifest.now self.now.positions.now }
-        ensures { StepsChange self.now.manifest.now (R.answers self.now.recorded.now) old.now rest.now result groups.now }
+        ensures makes { StepsChange self.now.manifest.now (R.answers self.now.recorded.now) old.now rest.now result groups.now }
+        ensures keeps { IfGiven result (λ new. AsksNoMore (lines_in new) (lines_in old.now)) }
     {
         let Some((first, others)) = split(rest) else {
             return Ok(None);
@@ -198,7 +215,8 @@ impl<R: Recorded> Change<'_, R> {
     fn group(&self, old: &State, calls: &Group, rest: &[Sel]) -> Result<Option<State>, Memory>
         requires ready { IsReady self.now.manifest.now self.now.positions.now }
         requires runs { IsRunning old.now }
-        ensures { GroupChanges self.now.manifest.now (R.answers self.now.recorded.now) old.now rest.now result calls.now }
+        ensures makes { GroupChanges self.now.manifest.now (R.answers self.now.recorded.now) old.now rest.now result calls.now }
+        ensures keeps { IfGiven result (λ new. AsksNoMore (lines_in new) (lines_in old.now)) }
     {
         let Some((first, others)) = split(rest) else {
             return Ok(None);

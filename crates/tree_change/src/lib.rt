@@ -5,6 +5,7 @@ mod again;
 mod change;
 mod dag_again;
 mod leaf;
+mod pods;
 mod share;
 
 pub use again::made_again;

@@ -16,7 +16,7 @@ use Rattle.tree_state.specs.declared.refused.TreeRefused.TheVariants.{TooLarge, 
 use Rattle.tree_state.proofs.Tellings.{filter_append}
 use Rattle.tree_state.proofs.Counts.{counted}
 use Rattle.tree_eval.specs.declared.tops.Tops.{Tops}
-use Rattle.tree_eval.specs.Whole.{Pair, running_pair, locked_pair, started_pair, pair_by, pair, Whole, whole, LinesAreMeant}
+use Rattle.tree_eval.specs.Whole.{Pair, running_pair, locked_pair, started_pair, pair_by, pair, Whole, LinesAreMeant}
 use Rattle.tree_eval.specs.Inside.Tops.{count_exit, meant_tops, count_tops, lines_of, phase_of, GivesTops}
 use Rattle.tree_eval.specs.Inside.Stages.{GivesWhole, Runs}
 

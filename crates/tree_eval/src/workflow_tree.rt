@@ -11,9 +11,10 @@ ghost use Rattle.tree_types.specs.declared.phase.Phase.TheVariants.{Running};
 ghost use Rattle.locality.specs.Answered.{SameBut};
 ghost use Rattle.wf_manifest.specs.Valid.{Valid};
 ghost use Rattle.tree_walk.specs.Index.{IsReady};
-ghost use Rattle.tree_eval.specs.After.{IsMeant};
+ghost use Rattle.tree_change.specs.Asking.{AsksNoMore};
+ghost use Rattle.tree_eval.specs.After.{IsMeant, RunsOn};
 ghost use Rattle.tree_eval.specs.Pods.{NoneAmong};
-ghost use Rattle.tree_eval.specs.Inside.Stages.{GivesWhole, RunsOn};
+ghost use Rattle.tree_eval.specs.Inside.Stages.{GivesWhole};
 ghost use Rattle.tree_eval.specs.Told.{evaluated};
 ghost use Rattle.tree_eval.specs.Whole.{whole, meant_whole, lines_of};
 
@@ -75,52 +76,33 @@ impl WorkflowTree {
         }
     }
 
-    /// The tree once one fact more is recorded, made from this one: the path of the fact is `changed`, `before` is what was
-    /// recorded without it, and what is on no way to it is shared. There is none where the tree has to be made anew: where the
-    /// workflow did not run, and where the fact is none of the entrypoint.
-    pub fn after<R: Recorded>(
+    /// The tree once one fact more is recorded, where no more changes than the nodes on the way to the fact: `changed` is the
+    /// path of the fact, `before` what was recorded without it, and all other nodes are shared. So the nodes keep their places,
+    /// and no pod is asked for that was not asked for before.
+    ///
+    /// There is none where more may change: where the workflow did not run, where the fact is none of the entrypoint, where
+    /// the exit handler runs, and where something waits for what the fact ends.
+    pub fn along<R: Recorded>(
         &self,
         manifest: &Manifest,
         positions: &Positions,
         recorded: &R,
         before: &R,
         changed: &[Sel],
-    ) -> Result<Option<WorkflowTree>, TreeRefused>
+    ) -> Result<Option<WorkflowTree>, Memory>
         requires ready { IsReady manifest.now positions.now }
         requires same { SameBut (R.answers recorded.now) (R.answers before.now) changed.now }
         requires tree { self.now ≡ whole manifest.now (R.answers before.now) }
-        ensures { IsMeant manifest.now (R.answers recorded.now) result }
+        ensures meant { RunsOn manifest.now (R.answers recorded.now) result }
+        ensures keeps { IfOk result (λ made.
+            IfSome made (λ tree. AsksNoMore (lines_of tree) (lines_of self.now))) }
     {
-        let Phase::Running = self.phase else {
+        let Some(rest) = self.below_main(changed) else {
             return Ok(None);
         };
-        let Some((first, rest)) = split(changed) else {
+        if self.tops.exit.is_some() {
             return Ok(None);
-        };
-        let Sel::Main = first else {
-            return Ok(None);
-        };
-        match self.along(manifest, positions, recorded, before, rest)? {
-            Some(tree) => Ok(Some(tree)),
-            None => Ok(Some(self.again(manifest, positions, recorded, before, rest)?)),
         }
-    }
-
-    // The same, where it goes on below the entrypoint and no more changes than the nodes on the way to the fact.
-    fn along<R: Recorded>(
-        &self,
-        manifest: &Manifest,
-        positions: &Positions,
-        recorded: &R,
-        before: &R,
-        rest: &[Sel],
-    ) -> Result<Option<WorkflowTree>, Memory>
-        requires ready { IsReady manifest.now positions.now }
-        requires same { SameBut (R.answers recorded.now) (R.answers before.now) (Main ∷ rest.now) }
-        requires tree { self.now ≡ whole manifest.now (R.answers before.now) }
-        requires runs { self.now.phase ≡ Running }
-        ensures { RunsOn manifest.now (R.answers recorded.now) result }
-    {
         let old = &self.tops.main;
         let entry = &manifest.entrypoint;
         let Some(main) = changed_top(manifest, positions, recorded, old, entry, rest)? else {
@@ -138,7 +120,46 @@ impl WorkflowTree {
         }))
     }
 
-    // The same, whatever changes.
+    /// The tree once one fact more is recorded, whatever changes with it: what is on no way to the fact, and does not begin
+    /// with it, is shared. There is none where the tree has to be made anew: where the workflow did not run, and where the
+    /// fact is none of the entrypoint.
+    pub fn after<R: Recorded>(
+        &self,
+        manifest: &Manifest,
+        positions: &Positions,
+        recorded: &R,
+        before: &R,
+        changed: &[Sel],
+    ) -> Result<Option<WorkflowTree>, TreeRefused>
+        requires ready { IsReady manifest.now positions.now }
+        requires same { SameBut (R.answers recorded.now) (R.answers before.now) changed.now }
+        requires tree { self.now ≡ whole manifest.now (R.answers before.now) }
+        ensures { IsMeant manifest.now (R.answers recorded.now) result }
+    {
+        match self.below_main(changed) {
+            None => Ok(None),
+            Some(rest) => Ok(Some(self.again(manifest, positions, recorded, before, rest)?)),
+        }
+    }
+
+    // What a path has behind the entrypoint's, where the workflow runs and the path goes below its entrypoint.
+    fn below_main<'a>(&self, changed: &'a [Sel]) -> Option<&'a [Sel]>
+        ensures { IfSome result (λ rest.
+            (changed.now ≡ Main ∷ rest.now) × (self.now.phase ≡ Running)) }
+    {
+        let Phase::Running = self.phase else {
+            return None;
+        };
+        let Some((first, rest)) = split(changed) else {
+            return None;
+        };
+        let Sel::Main = first else {
+            return None;
+        };
+        Some(rest)
+    }
+
+    // What `after` gives.
     fn again<R: Recorded>(
         &self,
         manifest: &Manifest,

@@ -1,6 +1,6 @@
 -- The code of a workflow, by which contracts tell two of them apart.
 use Rattle.std.specs.Prelude.{List, refl}
-use Rattle.std.specs.Coded.{codes, Coded, code_by, coded×, coded_list}
+use Rattle.std.specs.Coded.{codes, Coded, code_by, coded×}
 use Rattle.depends_expr.specs.Expression.{expression_code}
 use Rattle.tree_types.specs.declared.fact.Fact.{Fact}
 use Rattle.wf_manifest.specs.declared.manifest.Manifest.{Manifest}

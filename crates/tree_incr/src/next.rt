@@ -1,13 +1,15 @@
 //! The tree of a workflow, made anew or from the one before.
 
-ghost use Rattle.std.specs.Prelude.{◌≡◌, ◌≢◌, [], Err, IfOk};
+ghost use Rattle.std.specs.Prelude.{◌≡◌, ◌≢◌, [], Err, IfOk, IfSome, IsTrue};
+ghost use Rattle.std.specs.Result.{result_map_both};
 ghost use Rattle.wf_manifest.specs.Valid.{Valid};
 ghost use Rattle.meaning.specs.Answers.{answers};
 ghost use Rattle.locality.specs.Answered.{sels_of};
 ghost use Rattle.tree_state.specs.declared.refused.TreeRefused.TheVariants as refused;
 ghost use Rattle.tree_walk.specs.Index.{IsReady};
-ghost use Rattle.tree_eval.specs.Whole.{whole, meant_whole};
-ghost use Rattle.tree_eval.specs.After.{IsMeant};
+ghost use Rattle.tree_change.specs.Asking.{AsksNoMore};
+ghost use Rattle.tree_eval.specs.Whole.{whole, meant_whole, lines_of};
+ghost use Rattle.tree_eval.specs.After.{IsMeant, RunsOn};
 ghost use Rattle.tree_incr.specs.Inside.{IsOneMore};
 
 use base_types::{Memory, TryCopy};
@@ -48,6 +50,29 @@ pub fn unstarted_tree(manifest: &Manifest, facts: &SharedFacts) -> Result<Workfl
     }
 }
 
+// The tree by the one before, where no more changes than the nodes on the way to the fact.
+fn along(
+    manifest: &Manifest,
+    positions: &Positions,
+    before: &WorkflowTree,
+    known: &SharedFacts,
+    facts: &SharedFacts,
+    changed: &Option<Sels>,
+) -> Result<Option<WorkflowTree>, Memory>
+    requires ready { IsReady manifest.now positions.now }
+    requires tree { before.now ≡ whole manifest.now (answers known.now) }
+    requires more { IsOneMore known.now facts.now changed.now }
+    ensures meant { RunsOn manifest.now (answers facts.now) result }
+    ensures keeps { IfOk result (λ made.
+        IfSome made (λ tree. AsksNoMore (lines_of tree) (lines_of before.now))) }
+{
+    facts_are_local();
+    match changed {
+        None => Ok(None),
+        Some(sels) => before.along(manifest, positions, facts, known, sels.as_slice()),
+    }
+}
+
 // The tree by the one before, where it follows from it.
 fn following(
     manifest: &Manifest,
@@ -69,8 +94,8 @@ fn following(
     }
 }
 
-/// The tree once a fact is recorded behind those that were known. Where it does not follow from the tree before it is made anew.
-pub fn next_tree(
+// The tree by the one before, or made anew where it does not follow from that.
+fn following_or_new(
     manifest: &Manifest,
     positions: &Positions,
     before: &WorkflowTree,
@@ -87,4 +112,30 @@ pub fn next_tree(
         Some(tree) => Ok(tree),
         None => WorkflowTree::of(manifest, facts),
     }
+}
+
+/// The tree once a fact is recorded behind those that were known; and whether it is known, from the way in which it was made,
+/// that it asks for no pod that the one before does not ask for, and that its nodes have kept their places.
+pub fn next_tree(
+    manifest: &Manifest,
+    positions: &Positions,
+    before: &WorkflowTree,
+    known: &SharedFacts,
+    facts: &SharedFacts,
+    changed: &Option<Sels>,
+) -> Result<(WorkflowTree, bool), TreeRefused>
+    requires ready { IsReady manifest.now positions.now }
+    requires tree { before.now ≡ whole manifest.now (answers known.now) }
+    requires more { IsOneMore known.now facts.now changed.now }
+    ensures meant { result ≢ Err refused.Memory
+        → result_map_both (λ made. made.0) (λ e. e) result
+        ≡ meant_whole manifest.now (answers facts.now) }
+    ensures keeps { IfOk result (λ made. IsTrue made.1
+        → AsksNoMore (lines_of made.0) (lines_of before.now)) }
+{
+    if let Some(tree) = along(manifest, positions, before, known, facts, changed)? {
+        return Ok((tree, true));
+    }
+    let tree = following_or_new(manifest, positions, before, known, facts, changed)?;
+    Ok((tree, false))
 }

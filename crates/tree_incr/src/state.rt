@@ -1,7 +1,8 @@
 //! A workflow with its tree.
 
-ghost use Rattle.std.specs.Prelude.{◌≡◌, ◌≢◌, Err, IfOk, length, option_copied};
+ghost use Rattle.std.specs.Prelude.{◌≡◌, ◌≢◌, Err, IfOk, IsTrue, length, option_copied};
 ghost use Rattle.std.specs.List.{find};
+ghost use Rattle.std.specs.Result.{result_map_both};
 ghost use Rattle.wf_manifest.specs.Valid.{Valid as IsValid};
 ghost use Rattle.meaning.specs.Answers.{answers};
 ghost use Rattle.meaning.specs.Trees as trees;
@@ -9,6 +10,7 @@ ghost use Rattle.tree_state.specs.declared.refused.TreeRefused.TheVariants as re
 ghost use Rattle.tree_state.specs.Asking.{is_of, first};
 ghost use Rattle.tree_eval.specs.Whole.{meant_whole};
 ghost use Rattle.tree_incr.specs.Workflows.{unstarted, added, told};
+ghost use Rattle.tree_incr.specs.NewPods.{AddsNoPod};
 
 use crate::next::{next_tree, path_of, unstarted_tree};
 use base_types::{Memory, TryCopy};
@@ -31,6 +33,8 @@ pub struct TreeState {
     positions: Arc<Positions>,
     facts: SharedFacts,
     pub(crate) tree: Arc<WorkflowTree>,
+    // Whether it is known that the last fact adds no pod.
+    adds_no_pod: bool,
 }
 
 // Written out, so that proofs about code that drops a state see one call.
@@ -41,6 +45,7 @@ impl Drop for TreeState {
             positions: _,
             facts: _,
             tree: _,
+            adds_no_pod: _,
         } = self;
     }
 }
@@ -61,7 +66,7 @@ impl Model for TreeState {
 }
 
 impl TreeState {
-    ghost use Rattle.tree_incr.specs.Inside.{IsTreeOf, IsOneMore};
+    ghost use Rattle.tree_incr.specs.Inside.{IsTreeOf, IsOneMore, NoPodIf};
 
     /// A workflow of which nothing is recorded yet.
     pub fn new(valid: Valid) -> Result<TreeState, Memory>
@@ -77,6 +82,7 @@ impl TreeState {
             positions: Arc::new(alloc, positions)?,
             facts,
             tree: Arc::new(alloc, tree)?,
+            adds_no_pod: false,
         })
     }
 
@@ -89,20 +95,25 @@ impl TreeState {
         let changed = path_of(&fact)?;
         let mut facts = self.facts.share()?;
         facts.add(fact)?;
-        let tree = self.grown(&facts, &changed)?;
-        Ok(self.over(facts, tree)?)
+        let made = self.grown(&facts, &changed)?;
+        let (tree, adds_no_pod) = made;
+        Ok(self.over(facts, tree, adds_no_pod)?)
     }
 
-    // The tree over these facts, one more than those here.
+    // The tree over these facts, one more than those here; and whether it is known that the fact adds no pod.
     fn grown(
         &self,
         facts: &SharedFacts,
         changed: &Option<Sels>,
-    ) -> Result<WorkflowTree, TreeRefused>
+    ) -> Result<(WorkflowTree, bool), TreeRefused>
         requires { IsOneMore self.now.facts facts.now changed.now }
-        ensures { result ≢ Err refused.Memory
-            → result ≡ meant_whole self.now.manifest (answers facts.now) }
+        ensures meant { result ≢ Err refused.Memory
+            → result_map_both (λ made. made.0) (λ e. e) result
+            ≡ meant_whole self.now.manifest (answers facts.now) }
+        ensures no_pod { IfOk result (λ made. NoPodIf made.1
+            record { manifest = self.now.manifest; facts = facts.now }) }
     {
+        lines_are_meant();
         let manifest = self.valid.manifest();
         next_tree(
             manifest,
@@ -114,9 +125,15 @@ impl TreeState {
         )
     }
 
-    // The same manifest over other facts and their tree.
-    fn over(&self, facts: SharedFacts, tree: WorkflowTree) -> Result<TreeState, Memory>
-        requires { IsTreeOf tree self.now.manifest facts }
+    // The same manifest over other facts and their tree, and whether it is known that the last fact adds no pod.
+    fn over(
+        &self,
+        facts: SharedFacts,
+        tree: WorkflowTree,
+        adds_no_pod: bool,
+    ) -> Result<TreeState, Memory>
+        requires tree { IsTreeOf tree self.now.manifest facts }
+        requires no_pod { NoPodIf adds_no_pod record { manifest = self.now.manifest; facts = facts } }
         ensures { IfOk result (λ state. state ≡ record { manifest = self.now.manifest; facts = facts }) }
     {
         let alloc = self.valid.manifest().name.allocator();
@@ -125,6 +142,7 @@ impl TreeState {
             positions: Arc::try_clone(&self.positions)?,
             facts,
             tree: Arc::new(alloc, tree)?,
+            adds_no_pod,
         })
     }
 
@@ -142,6 +160,14 @@ impl TreeState {
         ensures { result.now ≡ self.now.facts }
     {
         &self.facts
+    }
+
+    /// Whether it is known that the last fact made the workflow ask for no pod that it did not ask for before. False says
+    /// nothing.
+    pub fn adds_no_pod(&self) -> bool
+        ensures { IsTrue result → AddsNoPod self.now }
+    {
+        self.adds_no_pod
     }
 
     /// The phase of the workflow.
@@ -193,6 +219,7 @@ impl TryCopy for TreeState {
             positions: Arc::try_clone(&self.positions)?,
             facts: self.facts.share()?,
             tree: Arc::try_clone(&self.tree)?,
+            adds_no_pod: self.adds_no_pod,
         })
     }
 }

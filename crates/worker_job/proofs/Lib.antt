@@ -6,3 +6,4 @@ mod Walks
 mod Changed
 mod OtherKinds
 mod Marked
+mod Lasting

@@ -1,5 +1,5 @@
 -- Marks: what they say of the first pod that gives something, and what is left of them once a pod was looked at.
-use Rattle.std.proofs.Common.{◌≡◌, ℕ, zero, suc, Bool, true, false, true≢false, cond, ◌&&◌, List, [], ◌∷◌, map, take, refl, sym, ap, ap₂, ◌∙◌, Bor, Option, Some, None, option_map, option_and_then, option_copied}
+use Rattle.std.proofs.Common.{◌≡◌, ℕ, zero, suc, ◌<◌, ◌≤◌, arith, Bool, true, false, true≢false, cond, ◌&&◌, List, [], ◌∷◌, map, take, refl, sym, ap, ap₂, ◌∙◌, Bor, Option, Some, None, option_map, option_and_then, option_copied}
 use Rattle.std.specs.Prelude.{is_some, is_none, if◌then◌else◌}
 use Rattle.std.specs.List.{find}
 use Rattle.tree_types.specs.declared.path.Path.{Path}
@@ -23,7 +23,7 @@ use Rattle.worker_job.specs.declared.marks.Marks.{Marks}
 use Rattle.next_step.specs.Next as next
 use Rattle.worker_job.specs.Readings as reads
 use Rattle.worker_job.specs.Inside.{pod_told}
-use Rattle.worker_job.specs.Inside.Marks.{pod_name, by_name, looks_so, has_ended, notes_absent, unread, ended, absent, IsMarked, MarksFit, none, seen_ended, after}
+use Rattle.worker_job.specs.Inside.Marks.{pod_name, by_name, looks_so, has_ended, notes_absent, unread, ended, absent, all, IsKnown, IsMarked, MarksFit, none, seen_ended, after}
 use Rattle.worker_job.proofs.Asked.{OnlyOf, found_same, asked_found}
 use Rattle.looks.specs.declared.Look.{Look as Looked}
 use Rattle.looks.specs.Named.{is_named}
@@ -53,6 +53,17 @@ module _ (t : Want → Bool) where
   none_any (suc n) [] lacks = refl
   none_any (suc n) (x ∷ xs) lacks = any_by n x xs (t x) refl lacks (none_any n xs)
 
+  fewer_by : (x : Want) (xs ys : List Want) (b : Bool) → cond b (Some x) (find t ys) ≡ None → (find t ys ≡ None → find t xs ≡ None) → cond b (Some x) (find t xs) ≡ None
+  fewer_by x xs ys true lacks rest = absurd (cc)
+  fewer_by x xs ys false lacks rest = rest lacks
+
+  -- where none of the first passes, none of fewer does
+  pub none_fewer : (m n : ℕ) (xs : List Want) → m ≤ n → NoneAmong n t xs → NoneAmong m t xs
+  none_fewer zero n xs low lacks = refl
+  none_fewer (suc m) zero xs low lacks = absurd (omega arith)
+  none_fewer (suc m) (suc n) [] low lacks = refl
+  none_fewer (suc m) (suc n) (x ∷ xs) low lacks = fewer_by x (take m xs) (take n xs) (t x) lacks (none_fewer m n xs (omega arith))
+
   kind_by : (x : Want) (k b : Bool) (o : Option Want) (rest : List Want) → is_of kind.Pod x ≡ k → t x ≡ b → find t rest ≡ o → find t (cond k (x ∷ rest) rest) ≡ cond (k && b) (Some x) o
   kind_by x true b o rest is on e = ap (λ (b : Bool). cond b (Some x) (find t rest)) on ∙ ap (cond b (Some x)) e
   kind_by x false b o rest is on e = e
@@ -76,8 +87,17 @@ module _ {B : Type 0} (give : Want → Option B) (t : Want → Bool) where
       ∙ sym (asked_found kind.Pod give xs off)
 
 -- where none of all passes, none of so many does
-pub lacks_any : (t : Want → Bool) (n : ℕ) (ws : List Want) → None ≡ find t ws → NoneAmong n t ws
-lacks_any t n ws lacks = none_any t n ws (sym lacks)
+pub known_any : (t : Want → Bool) (n : ℕ) (ws : List Want) → find t ws ≡ None → IsKnown n t ws
+known_any t n ws lacks = record { first = none_any t n ws lacks; whole = λ _. lacks }
+
+-- of none nothing is known
+pub known_none : (t : Want → Bool) (ws : List Want) → IsKnown 0 t ws
+known_none t ws = record { first = refl; whole = λ e. absurd (omega (arith, e)) }
+
+-- of so many that are fewer than all
+pub known_fewer : (t : Want → Bool) (m n : ℕ) (ws : List Want) → m ≤ n → m < all → NoneAmong n t ws → IsKnown m t ws
+known_fewer t m n ws low few lacks =
+    record { first = none_fewer t m n ws low lacks; whole = λ e. absurd (omega (arith, e, few)) }
 
 -- what a state asks for is what its workflow asks for
 pub asks_same : (f : Flow) (state : Workflow) → state ≡ record { manifest = f.manifest; facts = f.journal } → pods_in (wants state.manifest state.facts) ≡ pods_in (wants_of f)
@@ -193,8 +213,10 @@ module _ (test : Option Look → Bool) (l : Look) (ls : List Look) (off : test (
   named_more None e = e
   named_more (Some name) e = one_more (find (is_look name) ls) (is_look name l) e
 
-  still : (f : Flow) (n : ℕ) → NoneAmong n (looks_so test ls f) (pods_in (wants_of f)) → NoneAmong n (looks_so test (l ∷ ls) f) (pods_in (wants_of f))
-  still f n known = none_weaker (looks_so test ls f) (looks_so test (l ∷ ls) f) (λ a. named_more (pod_name f a)) (take n (pods_in (wants_of f))) known
+  still : (f : Flow) (n : ℕ) → IsKnown n (looks_so test ls f) (pods_in (wants_of f)) → IsKnown n (looks_so test (l ∷ ls) f) (pods_in (wants_of f))
+  still f n known =
+      let weaker = none_weaker (looks_so test ls f) (looks_so test (l ∷ ls) f) (λ a. named_more (pod_name f a)) in
+      record { first = weaker (take n (pods_in (wants_of f))) known.first; whole = λ e. weaker (pods_in (wants_of f)) (known.whole e) }
 
 abbrev pub look_with : List ℕ → Option SeenPod → Look
 look_with name found = record { name = name; found = option_map pod_told found }
@@ -203,7 +225,7 @@ module _ (ls : List Look) (f : Flow) (k : Marks) (marked : IsMarked ls f k) (nam
   after_pod : (s : SeenPod) (b : Bool) → seen_ended s ≡ b → IsMarked (look_with name (Some s) ∷ ls) f (cond b (record k { settled = 0 }) k)
   after_pod s true is = record {
     read = still is_none (look_with name (Some s)) ls refl f k.read marked.read;
-    settled = refl;
+    settled = known_none (ended (look_with name (Some s) ∷ ls) f) (pods_in (wants_of f));
     created = still notes_absent (look_with name (Some s)) ls refl f k.created marked.created;
   }
   after_pod s false is = record {
@@ -216,7 +238,7 @@ module _ (ls : List Look) (f : Flow) (k : Marks) (marked : IsMarked ls f k) (nam
   after_look None = record {
     read = still is_none (look_with name None) ls refl f k.read marked.read;
     settled = still (λ o. has_ended (found_in o)) (look_with name None) ls refl f k.settled marked.settled;
-    created = refl;
+    created = known_none (absent (look_with name None ∷ ls) f) (pods_in (wants_of f));
   }
   after_look (Some s) = after_pod s (seen_ended s) refl
 
@@ -225,6 +247,13 @@ marks_after ls None k name found fit = tt
 marks_after ls (Some f) k name found fit = after_look ls f k fit name found
 
 -- no marks are always right
+pub marked_none : (ls : List Look) (f : Flow) → IsMarked ls f none
+marked_none ls f = record {
+  read = known_none (unread ls f) (pods_in (wants_of f));
+  settled = known_none (ended ls f) (pods_in (wants_of f));
+  created = known_none (absent ls f) (pods_in (wants_of f));
+}
+
 pub marks_none : (ls : List Look) (o : Option Flow) → MarksFit ls o none
 marks_none ls None = tt
-marks_none ls (Some f) = record { read = refl; settled = refl; created = refl }
+marks_none ls (Some f) = marked_none ls f

@@ -1,11 +1,13 @@
 -- A worker's job on one workflow, and what its snapshots show.
-use Rattle.std.specs.Prelude.{◌≡◌, Bool, true, false, List, Some, Option}
+use Rattle.std.specs.Prelude.{◌≡◌, ◌++◌, Bool, true, false, List, Some, Option}
 use Rattle.tree_types.specs.declared.entry.Key.{Key}
 use Rattle.tree_types.specs.declared.entry.Key.TheVariants.{Workflow, Pod, Locks, Caches}
 use Rattle.saves.specs.declared.Saved.{Saved}
 use Rattle.object_store.specs.declared.snapshot.Snapshot.{Snapshot}
 use Rattle.law.specs.Documents.{Text}
-use Rattle.law.specs.Contents.{Flow, Book, Content, OfWorkflow, OfLocks, OfCaches}
+use Rattle.meaning.specs.Answers.{Facts}
+use Rattle.law.specs.Contents.{Flow, Book, Content, OfWorkflow, OfLocks, OfCaches, flow_in}
+use Rattle.law.specs.Due.{Matter, record_fact}
 use Rattle.next_step.specs.Views.{Seen, Views}
 use Rattle.next_step.specs.Replies.{Job, Ending, goes_on, ended, seen}
 
@@ -25,6 +27,23 @@ IsRead w (Workflow x) = x ≡ w
 IsRead w (Pod x name) = x ≡ w
 IsRead w Locks = Unit {0}
 IsRead w Caches = Unit {0}
+
+-- ---- what a recorded fact leaves
+
+-- the same manifest, and more facts behind the journal
+pub record HasMore (f g : Flow) : Type 0 where
+  pub manifest : g.manifest ≡ f.manifest
+  pub more : Facts
+  pub journal : g.journal ≡ f.journal ++ more
+
+-- the workflow goes on from the one that was read
+abbrev pub GoesOn : Views → Content → Type 0
+GoesOn v c = (s : Seen Flow) (f : Flow) → v.flow ≡ Some s → flow_in (Some c) ≡ Some f → HasMore s.content f
+
+-- where a fact was recorded
+abbrev pub FactGoesOn : Matter → Views → Content → Type 0
+FactGoesOn (record_fact x) v c = GoesOn v c
+FactGoesOn _ v c = Unit {0}
 
 -- ---- the object of a view
 

@@ -3,15 +3,15 @@
 ghost use Rattle.std.specs.Prelude.{◌≡◌, ◌∷◌, None, Some, true, not, map, filter, bytes_eq, is_some, IfOk, OnOk, MatchOption, option_copied, option_map, option_and_then};
 ghost use Rattle.std.specs.List.{list_any};
 ghost use Rattle.tree_types.specs.declared.entry.Key.TheVariants as of_key;
-ghost use Rattle.law.specs.Contents.{flow_in};
+ghost use Rattle.law.specs.Contents.{Flow, flow_in};
 ghost use Rattle.wf_object.specs.Documents.{law_of};
 ghost use Rattle.wf_object.specs.Kept.{law_book, locks_in, caches_in};
-ghost use Rattle.next_step.specs.Views.{nothing, is_look, look_at, pod_seen};
+ghost use Rattle.next_step.specs.Views.{Seen, nothing, is_look, look_at, pod_seen};
 ghost use Rattle.next_step.specs.Next.{worker_next, get, act};
 ghost use Rattle.next_step.specs.Replies.{after, taken, with_look, seen, found, accepted, no_object, exists};
-ghost use Rattle.worker_job.specs.Jobs.{Leaves, IsRead, ShowsFlow, ShowsBook, ShowsSaves};
+ghost use Rattle.worker_job.specs.Jobs.{Leaves, IsRead, HasMore, GoesOn, FactGoesOn, ShowsFlow, ShowsBook, ShowsSaves};
 ghost use Rattle.worker_job.specs.Told.{matter_told, next_told, key_of};
-ghost use Rattle.worker_job.specs.Inside.Marks.{MarksFit};
+ghost use Rattle.worker_job.specs.Inside.Marks.{IsMarked, MarksFit};
 ghost use Rattle.worker_job.specs.Inside.{look_told, pod_told, kept_saves, flow_seen, book_seen, saves_seen};
 
 use crate::marks::{Marks, Pods};
@@ -27,7 +27,7 @@ use std::mem;
 use sync_locks::LockBook;
 use tree_types::Key;
 use wf_bundle::Document;
-use wf_object::{PodObject, WfContent};
+use wf_object::{PodObject, WfContent, WfObject};
 
 /// A pod as it was read.
 #[derive(Drop)]
@@ -248,13 +248,15 @@ impl Job {
 
     /// The change was accepted, and its object is this.
     pub fn did(&mut self, matter: &Matter, snapshot: Snapshot<WfContent>) -> Result<bool, Memory>
-        requires { snapshot.key ≡ key_of self.old.workflow (matter_told matter.now) }
+        requires key { snapshot.key ≡ key_of self.old.workflow (matter_told matter.now) }
+        requires goes_on { FactGoesOn (matter_told matter.now) self.old.views snapshot.content }
         ensures after { IfOk result (λ on. Leaves on
             (after self.old.views (act (matter_told matter.now))
             (accepted (seen snapshot.version snapshot.content snapshot.tick))) self.new.views) }
         ensures workflow { self.new.workflow ≡ self.old.workflow }
     {
         match matter {
+            Matter::RecordFact(_) => Ok(self.go_on(snapshot)),
             Matter::Submit(resubmission) => {
                 self.note_try(&resubmission.name)?;
                 Ok(true)
@@ -292,10 +294,41 @@ impl Job {
         ensures workflow { self.new.workflow ≡ self.old.workflow }
     {
         if snapshot.content.workflow().is_some() {
-            self.set_flow(snapshot);
+            self.set_flow(snapshot, Marks::none());
             true
         } else {
             false
+        }
+    }
+
+    // A fact was recorded, and the workflow is this one now.
+    fn go_on(&mut self, snapshot: Snapshot<WfContent>) -> bool
+        requires key { snapshot.key ≡ of_key.Workflow self.old.workflow }
+        requires goes_on { GoesOn self.old.views snapshot.content }
+        ensures after { Leaves result
+            (taken self.old.views snapshot.key snapshot.version snapshot.tick snapshot.content)
+            self.new.views }
+        ensures workflow { self.new.workflow ≡ self.old.workflow }
+    {
+        let Some(object) = snapshot.content.workflow() else {
+            return false;
+        };
+        let marks = self.marks_at(object);
+        self.set_flow(snapshot, marks);
+        true
+    }
+
+    // The marks, where the workflow becomes this one.
+    fn marks_at(&self, object: &WfObject) -> Marks
+        requires { (s : Seen Flow) → self.now.views.flow ≡ Some s → HasMore s.content object.now }
+        ensures { IsMarked self.now.views.pods object.now result }
+    {
+        let Some(flow) = &self.flow else {
+            return Marks::none();
+        };
+        match flow.content.workflow() {
+            None => Marks::none(),
+            Some(before) => self.marks.behind(before, object),
         }
     }
 
@@ -353,16 +386,17 @@ impl Job {
     // ---- one change of what is kept
 
     // The saves are to be read after the workflow.
-    fn set_flow(&mut self, snapshot: Snapshot<WfContent>)
+    fn set_flow(&mut self, snapshot: Snapshot<WfContent>, marks: Marks)
         requires key { snapshot.key ≡ of_key.Workflow self.old.workflow }
         requires kind { is_some (flow_in (Some snapshot.content)) ≡ true }
+        requires marked { MarksFit self.old.views.pods (flow_in (Some snapshot.content)) marks }
         ensures views { self.new.views
             ≡ record self.old.views { flow = flow_seen snapshot; saves = None } }
         ensures workflow { self.new.workflow ≡ self.old.workflow }
     {
         self.flow = Some(snapshot);
         self.saves = None;
-        self.marks = Marks::none();
+        self.marks = marks_behind(&self.flow, &self.looks, marks);
     }
 
     fn set_book(&mut self, snapshot: Snapshot<WfContent>)

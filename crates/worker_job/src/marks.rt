@@ -1,12 +1,14 @@
 //! Which pods that are asked for are known to give nothing to a step, so that a step looks only behind them.
 
-ghost use Rattle.std.specs.Prelude.{◌≡◌, map, IfSome, option_copied, option_map};
+ghost use Rattle.std.specs.Prelude.{◌≡◌, List, map, IfSome, option_copied, option_map};
 ghost use Rattle.std.specs.List.{find};
 ghost use Rattle.tree_eval.specs.Pods.{NoneAmong};
 ghost use Rattle.tree_state.specs.Finding.{pods_in};
 ghost use Rattle.law.specs.Justified.{wants_of};
+ghost use Rattle.next_step.specs.Views.{Look as Looked};
 ghost use Rattle.worker_job.specs.Inside.{look_told};
 ghost use Rattle.worker_job.specs.Inside.Marks as marked;
+ghost use Rattle.worker_job.specs.Jobs.{HasMore};
 
 use crate::job::SeenPod;
 use base_types::Text;
@@ -14,6 +16,9 @@ use looks::Looks;
 use tree_incr::WantTest;
 use tree_types::Want;
 use wf_object::WfObject;
+
+// The count that stands for all pods, however many they are.
+const ALL: usize = usize::MAX;
 
 // How many pods, from the first in tree order, give nothing to the step that reads them, to the one that settles them, and to
 // the one that creates them.
@@ -50,6 +55,37 @@ impl Marks {
             }
         }
     }
+
+    // What is left of them once the workflow has more facts. A fact that asks for no new pod gives nothing to a step that got
+    // nothing of all pods; of those from the first nothing is known any more, since others may be left. What the object tells is
+    // of its last fact alone.
+    pub(crate) fn behind(self, before: &WfObject, object: &WfObject) -> Marks
+        requires { HasMore before.now object.now }
+        ensures { (ls : List Looked) → marked.IsMarked ls before.now self → marked.IsMarked ls object.now result }
+    {
+        let more = object.journal().len() - before.journal().len();
+        if more == 1 && object.state().adds_no_pod() {
+            self.of_all()
+        } else {
+            Marks::none()
+        }
+    }
+
+    fn of_all(self) -> Marks
+        ensures { result ≡ marked.of_all self }
+    {
+        Marks {
+            read: if_all(self.read),
+            settled: if_all(self.settled),
+            created: if_all(self.created),
+        }
+    }
+}
+
+fn if_all(known: usize) -> usize
+    ensures { result ≡ marked.if_all known }
+{
+    if known == ALL { known } else { 0 }
 }
 
 // What a step looks for among the pods that are asked for, by the last look at each: one that was not looked at, one that had
@@ -155,14 +191,14 @@ impl<'a> Pods<'a> {
 
     // How many pods from the first are no such pods, where so many are known to be none.
     fn first(&self, sought: Sought, known: usize) -> usize
-        requires known { NoneAmong known (marked.such sought (map look_told self.now.looks.now) self.now.object.now)
+        requires { marked.IsKnown known (marked.such sought (map look_told self.now.looks.now) self.now.object.now)
             (pods_in (wants_of self.now.object.now)) }
-        ensures { NoneAmong result (marked.such sought (map look_told self.now.looks.now) self.now.object.now)
+        ensures { marked.IsKnown result (marked.such sought (map look_told self.now.looks.now) self.now.object.now)
             (pods_in (wants_of self.now.object.now)) }
     {
         match self.find(sought, known) {
-            None => usize::MAX,
-            Some((position, _)) => position,
+            None => ALL,
+            Some((position, _)) => position.min(ALL - 1),
         }
     }
 
@@ -172,11 +208,11 @@ impl<'a> Pods<'a> {
         ensures { marked.IsMarked (map look_told self.now.looks.now) self.now.object.now result }
     {
         let read = self.first(Sought::Unread, marks.read);
-        if read < usize::MAX {
+        if read < ALL {
             return Marks { read, ..marks };
         }
         let settled = self.first(Sought::Ended, marks.settled);
-        if settled < usize::MAX {
+        if settled < ALL {
             return Marks {
                 read,
                 settled,

@@ -1,13 +1,8 @@
 -- A workflow before it runs, and while it runs.
-use Rattle.std.specs.Prelude.{◌≡◌, ◌<◌, ◌≤◌, List, [], Bool, true, false, Option, Some, None, Result, Ok, Err, length}
+use Rattle.std.specs.Prelude.{◌≡◌, ◌<◌, ◌≤◌, [], Bool, true, false, Option, None, Result, Ok, Err, length}
 use Rattle.base_types.specs.Limits.{most_nodes}
-use Rattle.base_types.specs.declared.memory.Memory.{Memory as NoMemory}
 use Rattle.tree_types.specs.declared.path.LockId.{LockId}
-use Rattle.tree_types.specs.declared.phase.Phase.{Phase}
-use Rattle.tree_types.specs.declared.node.Note.{Note}
-use Rattle.tree_types.specs.declared.want.Want.{Want}
 use Rattle.wf_manifest.specs.declared.manifest.Manifest.{Manifest}
-use Rattle.meaning.specs.declared.lines.Line.{Line}
 use Rattle.meaning.specs.Answers.{Answers}
 use Rattle.meaning.specs.Trees.{lock_granted, lines, nodes_in}
 use Rattle.tree_state.specs.declared.refused.TreeRefused.{TreeRefused}
@@ -19,12 +14,6 @@ abbrev pub GivesWhole : Result Whole TreeRefused → Manifest → Answers → Ty
 GivesWhole (Ok w) m A = (w ≡ whole m A) × (length (nodes_in (lines m A)) ≤ most_nodes)
 GivesWhole (Err TooLarge) m A = most_nodes < length (nodes_in (lines m A))
 GivesWhole (Err Memory) m A = Unit {0}
-
--- the same, where it is made
-abbrev pub RunsOn : Manifest → Answers → Result (Option Whole) NoMemory → Type 0
-RunsOn m A (Ok (Some w)) = (w ≡ whole m A) × (length (nodes_in (lines m A)) ≤ most_nodes)
-RunsOn m A (Ok None) = Unit {0}
-RunsOn m A (Err e) = Unit {0}
 
 -- a lock that is not granted
 abbrev pub unless : Bool → Option LockId → Option LockId

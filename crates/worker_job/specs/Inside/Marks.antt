@@ -1,5 +1,5 @@
 -- Pods that are asked for, by the last looks at them, and how many from the first give nothing to a step.
-use Rattle.std.specs.Prelude.{Bool, false, cond, List, find, Option, Some, None, is_some, is_none, option_and_then}
+use Rattle.std.specs.Prelude.{◌≡◌, ℕ, ◌-◌, ◌^◌, ◌==◌, if◌then◌else◌, Bool, false, cond, List, find, Option, Some, None, is_some, is_none, option_and_then}
 use Rattle.tree_types.specs.declared.want.Want.{Want}
 use Rattle.tree_types.specs.declared.want.Want.TheVariants as want
 use Rattle.tree_state.specs.Finding.{pods_in}
@@ -54,11 +54,20 @@ such Absent = absent
 
 -- ---- marks
 
+-- the count that stands for all
+abbrev pub all : ℕ
+all = 2 ^ 64 - 1
+
+-- none of so many from the first passes
+pub record IsKnown (n : ℕ) (accepts : Want → Bool) (ws : List Want) : Type 0 where
+  pub first : NoneAmong n accepts ws
+  pub whole : n ≡ all → find accepts ws ≡ None
+
 -- so many pods from the first give nothing to the step that reads, that settles, and that creates
 pub record IsMarked (ls : List Look) (f : Flow) (k : Marks) : Type 0 where
-  pub read : NoneAmong k.read (unread ls f) (pods_in (wants_of f))
-  pub settled : NoneAmong k.settled (ended ls f) (pods_in (wants_of f))
-  pub created : NoneAmong k.created (absent ls f) (pods_in (wants_of f))
+  pub read : IsKnown k.read (unread ls f) (pods_in (wants_of f))
+  pub settled : IsKnown k.settled (ended ls f) (pods_in (wants_of f))
+  pub created : IsKnown k.created (absent ls f) (pods_in (wants_of f))
 
 -- of the workflow, where it was read
 abbrev pub MarksFit : List Look → Option Flow → Marks → Type 0
@@ -76,3 +85,10 @@ seen_ended s = is_some s.pod.outcome
 abbrev pub after : Marks → Option SeenPod → Marks
 after k None = record k { created = 0 }
 after k (Some s) = cond (seen_ended s) (record k { settled = 0 }) k
+
+-- what is left of them where the workflow asks for no new pod: what they say of all pods
+abbrev pub if_all : ℕ → ℕ
+if_all n = if n == all then n else 0
+
+abbrev pub of_all : Marks → Marks
+of_all k = record { read = if_all k.read; settled = if_all k.settled; created = if_all k.created }

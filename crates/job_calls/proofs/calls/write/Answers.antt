@@ -1,7 +1,8 @@
 -- A write is answered as of a history that goes on from what the client had seen.
 use Rattle.std.proofs.Common.{None}
-use Rattle.history.specs.History.{event}
-use Rattle.job_calls.proofs.Adding.{adds_later}
+use Rattle.history.specs.History.{event, clock_of, version_at}
+use Rattle.law.specs.Contents.{apply}
+use Rattle.job_calls.proofs.Adding.{adds_later, written_content}
 use Rattle.job_calls.proofs.calls.write.Goals as goal
 
 pub returns-clause-did : goal.returns-clause-did
@@ -18,3 +19,8 @@ returns-clause-leaves g c = record {
   same_place = c.write.ensures.place;
   rising = c.write.ensures.faults;
 }
+
+pub returns-clause-content : goal.returns-clause-content
+returns-clause-content g c =
+    let wrote = c.write.ensures.wrote in
+    written_content c.args.from.now c.args.next (clock_of wrote.at) (version_at apply wrote.at c.args.from.now.key) c.write.result wrote.gives

@@ -1,5 +1,5 @@
 -- The snapshot that was kept is of the object that the act changes.
-use Rattle.std.proofs.Common.{◌≡◌, ◌∙◌, ap}
+use Rattle.std.proofs.Common.{◌∙◌, ap}
 use Rattle.law.specs.Contents.{OfLocks, OfCaches}
 use Rattle.next_step.specs.Changes.{change_of}
 use Rattle.worker_job.specs.Told.{matter_told, key_of}

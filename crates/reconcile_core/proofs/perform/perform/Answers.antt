@@ -1,5 +1,5 @@
 -- The act that is next is still justified where it is accepted.
-use Rattle.std.proofs.Common.{◌≡◌, Some, None}
+use Rattle.std.proofs.Common.{Some, None}
 use Rattle.history.specs.History.{event}
 use Rattle.worker_job.specs.Told.{matter_told}
 use Rattle.reconcile_core.proofs.Performing.{written, created, still, done, makes_it}

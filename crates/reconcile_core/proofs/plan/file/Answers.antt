@@ -1,5 +1,5 @@
 -- The book was read, it does not know the key, and with the request it is what the entry leads to.
-use Rattle.std.proofs.Common.{◌≡◌, ◌∙◌, ap, option_map}
+use Rattle.std.proofs.Common.{◌∙◌, ap, option_map}
 use Rattle.books.specs.declared.Request.{Request}
 use Rattle.tree_types.specs.declared.entry.Entry.TheVariants.{File}
 use Rattle.law.specs.Contents.{OfLocks}

@@ -1,5 +1,5 @@
 -- A fact that is next is new.
-use Rattle.std.proofs.Common.{◌≡◌, ◌∙◌, ap}
+use Rattle.std.proofs.Common.{◌∙◌, ap}
 use Rattle.tree_types.specs.Journals.{knows}
 use Rattle.next_step.specs.Replies.{seen}
 use Rattle.reconcile_core.proofs.Planning.{shown_flow, new_fact}

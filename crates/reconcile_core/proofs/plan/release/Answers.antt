@@ -1,5 +1,5 @@
 -- The book was read, it shows the key holding, and with the release it is what the entry leads to.
-use Rattle.std.proofs.Common.{◌≡◌, ◌∙◌, ap}
+use Rattle.std.proofs.Common.{◌∙◌, ap}
 use Rattle.tree_types.specs.declared.entry.Entry.TheVariants.{Release}
 use Rattle.law.specs.Contents.{OfLocks}
 use Rattle.next_step.specs.Replies.{seen}

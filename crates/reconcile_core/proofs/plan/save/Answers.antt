@@ -1,5 +1,5 @@
 -- The saves were read, the writer is not among them, and with the save they are what the entry leads to.
-use Rattle.std.proofs.Common.{◌≡◌, ◌∙◌, ap}
+use Rattle.std.proofs.Common.{◌∙◌, ap}
 use Rattle.tree_types.specs.declared.entry.Entry.TheVariants.{Save}
 use Rattle.law.specs.Contents.{OfCaches}
 use Rattle.next_step.specs.Replies.{seen}

@@ -1,5 +1,5 @@
 -- A read is the next step, answered at the history that the client has seen then.
-use Rattle.std.proofs.Common.{◌≡◌, ◌∙◌, sym, refl, Ok}
+use Rattle.std.proofs.Common.{◌∙◌, sym, refl}
 use Rattle.reply_laws.specs.Replies.{read_reply}
 use Rattle.wf_object.specs.Documents.{law_of}
 use Rattle.next_step.specs.Next.{get}

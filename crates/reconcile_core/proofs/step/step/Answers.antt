@@ -1,5 +1,5 @@
 -- A job that is done makes no call.
-use Rattle.std.proofs.Common.{◌≡◌, ◌∙◌, sym, ap}
+use Rattle.std.proofs.Common.{◌∙◌, sym, ap}
 use Rattle.wf_object.specs.Documents.{law_of}
 use Rattle.worker_job.specs.Told.{next_told}
 use Rattle.reconcile_core.proofs.Stepping.{done_made}

@@ -1,10 +1,9 @@
 -- Each step goes on from those before it, and the last one ends the job.
-use Rattle.std.proofs.Common.{◌≡◌, ◌∙◌, Ok, ap, refl, sym}
+use Rattle.std.proofs.Common.{◌∙◌, Ok, ap, refl, sym}
 use Rattle.wf_object.specs.Documents.{law_of}
 use Rattle.wf_object.specs.Kept.{begins, justified}
 use Rattle.reconcile_core.specs.Reconciled.{returned}
-use Rattle.reconcile_core.specs.declared.answers.StepDone.TheVariants.{Called}
-use Rattle.reconcile_core.proofs.WholeJobs.{never_idle, going_first, going_on, told_whole, leaves_itself, err_not_called, not_called_ended}
+use Rattle.reconcile_core.proofs.WholeJobs.{never_idle, going_first, going_on, told_whole, err_not_called, not_called_ended}
 use Rattle.reconcile_core.proofs.whole_job.finish.Goals as goal
 
 pub calls-init : goal.calls-init

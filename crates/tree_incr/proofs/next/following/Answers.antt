@@ -1,5 +1,5 @@
 -- The fact changes what is answered at its path alone.
-use Rattle.std.proofs.Common.{◌≡◌, List, ◌++◌, ◌∷◌, [], Some, sym, ap, ◌∙◌, subst}
+use Rattle.std.proofs.Common.{◌≡◌, Some, sym, ap, ◌∙◌, subst}
 use Rattle.meaning.specs.Answers.{Sels, Facts, answers}
 use Rattle.locality.specs.Answered.{sels_of, SameBut}
 use Rattle.tree_incr.proofs.next.following.Goals as goal

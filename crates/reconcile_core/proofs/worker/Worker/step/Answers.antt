@@ -1,5 +1,4 @@
 -- A step of the oldest job is the step of the hand, and leaves it in that job or before the next.
-use Rattle.std.proofs.Common.{◌≡◌}
 use Rattle.wf_object.specs.Documents.{law_of}
 use Rattle.reconcile_core.specs.Inside.{working_in}
 use Rattle.reconcile_core.proofs.Working.{busy, views_of_job, worker_made, worker_seen, idle, idle_made}

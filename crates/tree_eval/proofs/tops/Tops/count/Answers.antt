@@ -1,5 +1,5 @@
 -- The nodes of both.
-use Rattle.std.proofs.Common.{◌≡◌, ◌+◌, sym, ap, ap₂, ◌∙◌}
+use Rattle.std.proofs.Common.{◌+◌, sym, ap, ap₂, ◌∙◌}
 use Rattle.std.specs.Prelude.{ℕ, Option}
 use Rattle.meaning.specs.Lines.{Made}
 use Rattle.tree_state.specs.Counting.{count}

@@ -1,11 +1,10 @@
 -- What stands on the way and fits is the one that fits.
-use Rattle.std.proofs.Common.{List, ap, ◌∙◌, subst, sym}
-use Rattle.std.specs.List.{find}
+use Rattle.std.proofs.Common.{List, subst}
 use Rattle.meaning.specs.declared.lines.Line.{Line}
 use Rattle.meaning.specs.Answers.{answers}
-use Rattle.tree_state.specs.Finding.{fits, IsFound}
+use Rattle.tree_state.specs.Finding.{IsFound}
 use Rattle.tree_incr.specs.Workflows.{Workflow}
-use Rattle.tree_incr.proofs.Found.{lines_by, lines_kept, found_is_first, valid_of}
+use Rattle.tree_incr.proofs.Found.{lines_kept, found_is_first, valid_of}
 use Rattle.tree_incr.proofs.state.TreeState.found.Goals as goal
 
 pub returns-in-Some : goal.returns-in-Some

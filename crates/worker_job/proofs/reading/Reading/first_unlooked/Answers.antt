@@ -11,11 +11,11 @@ pub returns-in-None : goal.returns-in-None
 returns-in-None c =
     let r = c.args.self.now in
     podded (reads.reading r) (unread r.job.now.views.pods r.object.now) (wants_of r.object.now) None (reading_only r) (reads_unread r)
-    (found_by unread c.pods.ensures.looks c.pods.ensures.object (c.in-None.ensures.first (known_by unread c.pods.ensures.looks c.pods.ensures.object r.marks.read c.requires.marked.read)))
+    (found_by unread c.pods.ensures.looks c.pods.ensures.object (c.in-None.ensures.first (known_by unread c.pods.ensures.looks c.pods.ensures.object r.marks.read c.requires.marked.read.first)))
 
 pub returns-in-Some : goal.returns-in-Some
 returns-in-Some c =
     let r = c.args.self.now in
     c.unlooked.ensures
     ∙ podded (reads.reading r) (unread r.job.now.views.pods r.object.now) (wants_of r.object.now) (Some c.in-Some.want.now) (reading_only r) (reads_unread r)
-    (found_by unread c.pods.ensures.looks c.pods.ensures.object (c.in-Some.ensures.first (known_by unread c.pods.ensures.looks c.pods.ensures.object r.marks.read c.requires.marked.read)))
+    (found_by unread c.pods.ensures.looks c.pods.ensures.object (c.in-Some.ensures.first (known_by unread c.pods.ensures.looks c.pods.ensures.object r.marks.read c.requires.marked.read.first)))

@@ -1,0 +1,6 @@
+-- The workflow in the content is what goes on.
+use Rattle.std.proofs.Common.{sym}
+use Rattle.worker_job.proofs.job.Job.go_on.Goals as goal
+
+pub marks_at-marks-requires : goal.marks_at-marks-requires
+marks_at-marks-requires c = λ s viewed. c.requires.goes_on s c.in-Some.object.now viewed (sym c.in-Some.ensures)
