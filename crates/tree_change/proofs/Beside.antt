@@ -1,26 +1,22 @@
 -- What stands beside the way down to a fact makes what it made.
-use Rattle.std.proofs.Common.{◌≡◌, ℕ, zero, suc, List, [], ◌∷◌, ◌++◌, append_assoc, Bool, true, false, drop, length, ◌<◌, ◌+◌, Some, refl, sym, ap, ◌∙◌, subst, arith}
-use Rattle.std.specs.Prelude.{◌&&◌, slice_get}
-use Rattle.std.proofs.lemmas.List.{append-nil}
+use Rattle.std.proofs.Common.{◌≡◌, ℕ, zero, suc, List, [], ◌∷◌, ◌++◌, append_assoc, Bool, true, false, drop, ◌<◌, ◌+◌, Some, refl, sym, ap, ◌∙◌, subst, arith, All}
+use Rattle.std.specs.Prelude.{slice_get}
+use Rattle.std.proofs.lemmas.List.Elements.{All-head, All-tail}
 use Rattle.tree_types.specs.declared.path.Sel.{Sel}
-use Rattle.tree_types.specs.declared.path.Sel.TheVariants.{Group, Step, Item}
-use Rattle.tree_types.specs.Places.{sel_eq}
+use Rattle.tree_types.specs.declared.path.Sel.TheVariants.{Group}
 use Rattle.wf_manifest.specs.declared.calls.Call.{Call}
 use Rattle.wf_manifest.specs.declared.manifest.Manifest.{Manifest}
 use Rattle.scopes.specs.Substitution.{Scope, value_in}
 use Rattle.scopes.specs.Values.{HasValuesOf}
 use Rattle.scopes.proofs.ValueIn.{over_alike}
-use Rattle.serde_json.specs.Data.{Data}
 use Rattle.meaning.specs.declared.lines.Place.{Place}
 use Rattle.meaning.specs.Answers.{Sels, Answers}
-use Rattle.meaning.specs.Lines.{Made, numbered, row_in}
+use Rattle.meaning.specs.Lines.{Made, row_in}
 use Rattle.meaning.proofs.Flattening.{row_in_row}
-use Rattle.meaning.specs.Steps.{Caller, Member, Groups, member_place, makings, members_at, group_made, group_phase, group_tags, group_place, groups_by, groups_from, steps_made}
-use Rattle.meaning.specs.Calls.{item_made, calls}
-use Rattle.locality.specs.Paths.{begins_with, IsOff}
+use Rattle.meaning.specs.Steps.{Caller, Member, Groups, members_at, group_made, group_phase, group_tags, group_place, groups_by, groups_from, steps_made}
+use Rattle.meaning.specs.Calls.{calls}
 use Rattle.locality.specs.Answered.{SameBut}
-use Rattle.locality.proofs.Paths.{off_own_children, off_other_child}
-use Rattle.locality.proofs.OffPath.{call_stays, item_stays, group_stays}
+use Rattle.locality.proofs.OffPath.{group_stays}
 use Rattle.tree_types.specs.Phases.{is_succeeded}
 use Rattle.wf_manifest.specs.declared.templates.OutputDecl.{OutputDecl}
 use Rattle.scope_laws.proofs.Bodies.{groups_agree}
@@ -29,19 +25,6 @@ use Rattle.tree_walk.specs.declared.over.Group.{Group as Seen}
 use Rattle.tree_walk.specs.Walking.{group_seen}
 use Rattle.tree_change.proofs.Changing.{off_group}
 use Rattle.tree_change.proofs.Calling.{alike}
-
--- ---- off a child
-
-differs : (a s : Sel) (others : Sels) → IsOff (a ∷ others) (s ∷ []) → sel_eq a s ≡ false
-differs a s others off = by_test (sel_eq a s) off
-  where
-    by_test : (b : Bool) → (b && begins_with others []) ≡ false → b ≡ false
-    by_test false e = refl
-    by_test true e = absurd (cc e)
-
-pub off_child : (at rest : Sels) (s : Sel) → IsOff rest (s ∷ []) → IsOff (at ++ rest) (at ++ s ∷ [])
-off_child at [] s off = subst (λ (p : Sels). IsOff p (at ++ s ∷ [])) (sym (append-nil at)) (off_own_children at [] s)
-off_child at (a ∷ others) s off = off_other_child at others [] a s (differs a s others off)
 
 -- ---- on the way down
 
@@ -52,19 +35,9 @@ same_below A B at below s rest others same is child =
     (ap (λ (r : Sels). at ++ r) is ∙ sym (append_assoc at (s ∷ []) others) ∙ ap (λ (p : Sels). p ++ others) (sym child))
     same
 
--- ---- calls beside the way down
+-- ---- groups beside the way down
 
 module _ (m : Manifest) (A B : Answers) (g : Scope) (left : ℕ) where
-  pub item_beside : (prefix : List ℕ) (place : Place) (scope : Scope) (c : Call) (i : ℕ) (d : Data) (rest : Sels) → SameBut A B (place.sels ++ rest) → IsOff rest (Item i ∷ []) →
-      item_made m B g (calls m B g left) prefix place scope c i d ≡ item_made m A g (calls m A g left) prefix place scope c i d
-  item_beside prefix place scope c i d rest same off =
-      sym (item_stays A B (place.sels ++ rest) same m g left prefix place scope c i d (off_child place.sels rest (Item i) off))
-
-  pub member_beside : (prefix : List ℕ) (group : Place) (scope : Scope) (c : Call) (j : ℕ) (rest : Sels) → SameBut A B (group.sels ++ rest) → IsOff rest (Step j ∷ []) →
-      calls m B g left prefix (member_place group j c) scope c ≡ calls m A g left prefix (member_place group j c) scope c
-  member_beside prefix group scope c j rest same off =
-      sym (call_stays A B (group.sels ++ rest) same m g left prefix (member_place group j c) scope c (off_child group.sels rest (Step j) off))
-
   -- a group in front of the one that the path goes down into
   pub group_beside : (place : Place) (i j : ℕ) (scope : Scope) (cs : List Call) (rest : Sels) → SameBut A B (place.sels ++ Group j ∷ rest) → i < j →
       members_at (calls m B g left) place i scope cs ≡ members_at (calls m A g left) place i scope cs
@@ -74,23 +47,16 @@ module _ (m : Manifest) (A B : Answers) (g : Scope) (left : ℕ) where
 
 -- ---- what stood below a node
 
-pub group_were : (place : Place) (ms : List Member) (old : Made) → old ≡ group_made place ms → row_in old.parts ≡ makings ms
-group_were place ms old is = ap (λ (b : Made). row_in b.parts) is ∙ row_in_row (makings ms)
-
 pub groups_were : (called : Caller) (place : Place) (scope : Scope) (declared : List OutputDecl) (gs : List (List Call)) (old : Made) → old ≡ steps_made called place scope declared gs →
     row_in old.parts ≡ (groups_from called place 0 scope gs).all
 groups_were called place scope declared gs old is = ap (λ (b : Made). row_in b.parts) is ∙ row_in_row (groups_from called place 0 scope gs).all
 
 -- ---- positions
 
-pub length_numbered : {X Y : Type 0} (f : ℕ → X → Y) (i : ℕ) (xs : List X) → length (numbered f i xs) ≡ length xs
-length_numbered f i [] = refl
-length_numbered f i (x ∷ xs) = ap suc (length_numbered f (suc i) xs)
-
-pub is_there : {X : Type 0} (xs : List X) (i : ℕ) (x : X) → slice_get xs i ≡ Some x → i < length xs
-is_there [] i x at = absurd (cc)
-is_there (y ∷ xs) zero x at = omega arith
-is_there (y ∷ xs) (suc i) x at = let less = is_there xs i x at in omega (arith, less)
+pub all_at : {X : Type 0} (P : X → Type 0) (xs : List X) (i : ℕ) (x : X) → All P xs → slice_get xs i ≡ Some x → P x
+all_at P [] i x all at = absurd (cc)
+all_at P (y ∷ ys) zero x all at = let same : y ≡ x = cc in subst P same (All-head P y ys all)
+all_at P (y ∷ ys) (suc i) x all at = all_at P ys i x (All-tail P y ys all) at
 
 pub at_drop : {X : Type 0} (xs more : List X) (i : ℕ) (x : X) → drop i xs ≡ x ∷ more → slice_get xs i ≡ Some x
 at_drop [] more zero x is = absurd (cc)
@@ -103,26 +69,6 @@ drop_next [] more zero x is = absurd (cc)
 drop_next [] more (suc i) x is = absurd (cc)
 drop_next (y ∷ xs) more zero x is = cc
 drop_next (y ∷ xs) more (suc i) x is = drop_next xs more i x is
-
-numbered_drop : {X Y : Type 0} (f : ℕ → X → Y) (i k : ℕ) (xs more : List X) (x : X) → drop k xs ≡ x ∷ more → slice_get (numbered f i xs) k ≡ Some (f (i + k) x)
-numbered_drop f i zero [] more x is = absurd (cc)
-numbered_drop f i (suc k) [] more x is = absurd (cc)
-numbered_drop {X} {Y} f i zero (y ∷ xs) more x is =
-    let same : y ≡ x = cc in
-    ap (λ (v : X). Some (f i v)) same ∙ ap (λ (n : ℕ). Some (f n x)) (omega arith)
-numbered_drop f i (suc k) (y ∷ xs) more x is =
-    numbered_drop f (suc i) k xs more x is ∙ ap (λ (n : ℕ). Some (f n x)) (omega arith)
-
--- the call of a position, among all
-pub numbered_here : {X : Type 0} (f : ℕ → X → Made) (xs more : List X) (i : ℕ) (x : X) (old : List Made) (one : Made) → old ≡ numbered f 0 xs → drop i xs ≡ x ∷ more → slice_get old i ≡ Some one → one ≡ f i x
-numbered_here f xs more i x old one are here at =
-    let is : slice_get old i ≡ Some (f (0 + i) x) = ap (λ (ms : List Made). slice_get ms i) are ∙ numbered_drop f 0 i xs more x here in
-    let same : one ≡ f (0 + i) x = cc in
-    let next : 0 + i ≡ i = omega arith in
-    same ∙ ap (λ (n : ℕ). f n x) next
-
-pub numbered_low : {X : Type 0} (f : ℕ → X → Made) (xs : List X) (i : ℕ) (old : List Made) → old ≡ numbered f 0 xs → i < length xs → i < length old
-numbered_low f xs i old are lt = let long = ap (λ (ms : List Made). length ms) are ∙ length_numbered f 0 xs in omega (arith, long, lt)
 
 -- ---- groups, one after the other
 

@@ -8,7 +8,6 @@ use Rattle.wf_manifest.specs.declared.calls.Call.{Call}
 use Rattle.wf_manifest.specs.declared.templates.Memoize.{Memoize}
 use Rattle.wf_manifest.specs.declared.templates.Template.{Template}
 use Rattle.tree_types.specs.Phases.{is_succeeded}
-use Rattle.wf_manifest.specs.declared.templates.OutputDecl.{OutputDecl}
 use Rattle.wf_manifest.specs.declared.manifest.Manifest.{Manifest}
 use Rattle.scopes.specs.Substitution.{Found, Scope}
 use Rattle.scopes.specs.Values.{HasValuesOf}
@@ -16,19 +15,15 @@ use Rattle.fanout.specs.Items.{items}
 use Rattle.fanout.specs.ItemTexts.{item_tags}
 use Rattle.meaning.specs.declared.lines.Place.{Place}
 use Rattle.meaning.specs.Answers.{Answers}
-use Rattle.meaning.specs.Lines.{Made, row_of, row_in}
-use Rattle.meaning.proofs.Flattening.{row_in_row}
-use Rattle.meaning.specs.Steps.{Caller, groups_from, steps_by, steps_made}
-use Rattle.meaning.specs.Calls.{template_named, kind_named, template_scope, stopped_before_loop, unless_stopped, hook_runs, then_hook, item_place, template_made, entry, call_by, call_of_template, hook_made, hooked_if, hooked, one_made, item_made, items_made, looped, saving_if, saving, each_made, calls}
+use Rattle.meaning.specs.Lines.{Made, row_of}
+use Rattle.meaning.specs.Steps.{Caller}
+use Rattle.meaning.specs.Calls.{template_named, kind_named, template_scope, stopped_before_loop, unless_stopped, hook_runs, then_hook, item_place, template_made, entry, call_by, call_of_template, hook_made, hooked_if, hooked, one_made, item_made, looped, saving_if, saving, each_made, calls}
 use Rattle.tree_state.specs.declared.refused.TreeRefused.{TreeRefused}
 use Rattle.tree_state.specs.Counting.{count, Gives}
 use Rattle.tree_state.proofs.Counts.{count_then}
 use Rattle.call_texts.specs.Told.{StandsFor}
 use Rattle.scope_laws.specs.Agreeing.{Agree}
-use Rattle.scope_laws.proofs.Bodies.{steps_by_agrees}
 use Rattle.scope_laws.proofs.Calls.{calls_agree, one_agrees, templates_agree}
-use Rattle.tree_walk.specs.declared.over.Row.{Row}
-use Rattle.tree_walk.specs.Walking.{GivesGroups, groups_kept}
 use Rattle.tree_change.specs.Entered.{IsRunning}
 use Rattle.tree_change.proofs.Entering.{made_inside, runs_alone}
 use Rattle.tree_change.proofs.Changing.{went_on}
@@ -70,7 +65,7 @@ module _ (m : Manifest) (A : Answers) (g : Scope) where
     hooked_longer label place scope None b = omega arith
     hooked_longer label place scope (Some h) b = longer_if (hook_runs b.own.node.phase) label place scope h b
 
--- ---- steps
+-- ---- caches
 
 -- a save counts no node
 pub count_saving : (place : Place) (c : Memoize) (key : List ℕ) (b : Made) → count b ≡ count (saving place c key b)
@@ -79,11 +74,6 @@ count_saving place c key b = by_phase (is_succeeded b.own.node.phase)
     by_phase : (x : Bool) → count b ≡ count (saving_if x place c key b)
     by_phase true = refl
     by_phase false = refl
-
-pub steps_done : (called : Caller) (place : Place) (scope : Scope) (declared : List OutputDecl) (gs : List (List Call)) (row : Row) (state : Made) (before mid after : ℕ) → before ≡ suc mid →
-    GivesGroups mid after (Ok row) (groups_from called place 0 scope gs) → state ≡ steps_by place declared (groups_kept row) → (state ≡ steps_made called place scope declared gs) × (after + count (steps_made called place scope declared gs) ≡ before)
-steps_done called place scope declared gs row state before mid after taken given is =
-    (is ∙ steps_by_agrees place declared (groups_kept row) (groups_from called place 0 scope gs) (record { all = given.0; scope = given.1 }), omega (arith, given.2, taken))
 
 -- ---- what a call was
 
@@ -112,6 +102,9 @@ module _ (m : Manifest) (A B : Answers) (g : Scope) where
         goes_on_again left prefix place scope c before after r deep (goes_on left prefix place scope c old deep is runs).0
         (subst (λ (o : Option Loop). Gives before after r (each_made m A g (calls m A g (left - 1)) prefix place scope c o)) (sym single) given)
 
+    pub one_was : c.each ≡ None → old ≡ one_made m B g (calls m B g (left - 1)) prefix place scope c
+    one_was single = (goes_on left prefix place scope c old deep is runs).1 ∙ ap (each_made m B g (calls m B g (left - 1)) prefix place scope c) single
+
     -- a looped call
     pub looped_was : (l : Loop) (ds : List Data) → c.each ≡ Some l → items scope l ≡ Ok ds → old ≡ looped m B g (calls m B g (left - 1)) prefix place scope c (Ok ds)
     looped_was l ds each said =
@@ -125,12 +118,6 @@ module _ (m : Manifest) (A B : Answers) (g : Scope) where
         goes_on_again left prefix place scope c before after r deep (goes_on left prefix place scope c old deep is runs).0
         (subst (λ (o : Option Loop). Gives before after r (each_made m A g (calls m A g (left - 1)) prefix place scope c o)) (sym each)
         (subst (λ (f : Found (List Data)). Gives before after r (looped m A g (calls m A g (left - 1)) prefix place scope c f)) (sym said) given))
-
-  module _ (called other : Caller) (prefix : List ℕ) (place : Place) (scope : Scope) (c : Call) (old : Made) where
-    -- the items of a looped call
-    pub items_were : (ds : List Data) → (ds ≡ [] → ⊥) → old ≡ looped m B g other prefix place scope c (Ok ds) → row_in old.parts ≡ items_made m B g other prefix place scope c ds
-    items_were [] some is = absurd (some refl)
-    items_were (d ∷ ds) some is = ap (λ (b : Made). row_in b.parts) is ∙ row_in_row (items_made m B g other prefix place scope c (d ∷ ds))
 
 -- a template that was entered, in a scope with the values of its own
 pub template_was : (m : Manifest) (B : Answers) (g : Scope) (left : ℕ) (label : List ℕ) (place : Place) (scope inner : Scope) (name : List ℕ) (given : List Argument) (exit : Option Hook) (t : Template) (old : Made) →

@@ -32,9 +32,9 @@ use Rattle.meaning.specs.Answers.{Sels, Answers}
 use Rattle.meaning.specs.Lines.{numbered, Made, row_of, row_in, no_outputs, all_finished}
 use Rattle.meaning.specs.Pods.{outputs_of, pod_by, pod_made}
 use Rattle.meaning.specs.Outputs.{completed}
-use Rattle.meaning.specs.Steps.{Caller, members, member_place, group_made, group_place, steps_made}
+use Rattle.meaning.specs.Steps.{Caller, members, member_place, makings, group_made, group_place, steps_made}
 use Rattle.meaning.specs.Dags.{dag_made}
-use Rattle.meaning.specs.Calls.{declared_by, item_place, item_made, looped, template_named, stopped_before_loop, stopped_at_item, unless_stopped, kind_named, hook_runs, hooked, saving, body_by, body_made, template_made, call_of_template, one_made, each_made, calls}
+use Rattle.meaning.specs.Calls.{declared_by, item_place, item_made, items_made, looped, template_named, stopped_before_loop, stopped_at_item, unless_stopped, kind_named, hook_runs, hooked, saving, body_by, body_made, template_made, call_of_template, one_made, each_made, calls}
 use Rattle.growth.proofs.Keeping.{At, node_at, ending_ends}
 use Rattle.locality.specs.Paths.{IsOff}
 use Rattle.locality.specs.Answered.{SameBut}
@@ -45,7 +45,7 @@ use Rattle.tree_change.specs.Entered.{IsRunning, place_of}
 use Rattle.tree_change.specs.Open.{unlocked, IsOpen}
 use Rattle.tree_change.proofs.Entering.{goes_on_before, goes_on_at, made_inside, has_entered, no_hook, runs_alone}
 use Rattle.tree_change.proofs.Opening.{is_open, open_phase, open_made, plain_made, saved_made, open_alike}
-use Rattle.tree_change.proofs.Rows.{row_other, numbered_at, making, makings_are, group_other, groups_other, steps_other, loop_other}
+use Rattle.tree_change.proofs.Rows.{row_other, numbered_at, making, makings_are, group_other, groups_other, steps_other, unfinished_row, loop_other}
 
 -- a pod's node stands at its place
 pod_at : (place : Place) (ds : List OutputDecl) (o : Option (Note × Outcome)) → At place (pod_by place ds o).own.node
@@ -81,29 +81,36 @@ module _ (m : Manifest) (A B : Answers) (changed : Sels) (same : SameBut A B cha
   off_group place i n rest way lt =
       subst (λ (p : Sels). IsOff p (place.sels ++ Group n ∷ [])) (sym way) (off_other_child place.sels rest [] (Group i) (Group n) (ne_eqb i n (λ e. omega (arith, e))))
 
+  -- the members of a group, of which one changed
+  pub members_other : (q : Place) (s : Scope) (cs : List Call) (j : ℕ) (rest : Sels) (z : Made) → changed ≡ q.sels ++ Step j ∷ rest →
+      ((c : Call) → slice_get cs j ≡ Some c → called (codes "steps.") (member_place q j c) s c ≡ z) →
+      row_of (makings (members called q s cs)) ≡ replaced (row_of (makings (members other q s cs))) j z
+  members_other q s cs j rest z way here =
+      ap (λ (ms : List Made). row_of ms) (makings_are called q s 0 cs)
+      ∙ row_other (making called q s) (making other q s) 0 j cs z
+      (λ k c apart. call_stays A B changed same m g left (codes "steps.") (member_place q k c) s c (off_step q j k rest way apart))
+      (λ c found. ap (λ (n : ℕ). making called q s n c) (omega arith) ∙ here c found)
+      ∙ ap (λ (ms : List Made). replaced (row_of ms) j z) (sym (makings_are other q s 0 cs))
+
+  -- what a member made
+  pub member_stood : (q : Place) (s : Scope) (cs : List Call) (j : ℕ) (one : Made) (c : Call) → call_at (row_of (makings (members other q s cs))) j ≡ Some one → slice_get cs j ≡ Some c →
+      one ≡ other (codes "steps.") (member_place q j c) s c
+  member_stood q s cs j one c at found =
+      let there : Some one ≡ Some (making other q s (0 + j) c) = sym at ∙ ap (λ (ms : List Made). call_at (row_of ms) j) (makings_are other q s 0 cs) ∙ numbered_at (making other q s) 0 j cs c found in
+      let next : 0 + j ≡ j = omega arith in
+      let same_member : one ≡ making other q s (0 + j) c = cc in
+      same_member ∙ ap (λ (n : ℕ). making other q s n c) next
+
   pub group_changes : (q : Place) (s : Scope) (cs : List Call) (j : ℕ) (rest : Sels) (old one z : Made) →
       changed ≡ q.sels ++ Step j ∷ rest → old ≡ group_made q (members other q s cs) → IsRunning old → call_at old.parts j ≡ Some one →
       ((c : Call) → slice_get cs j ≡ Some c → one ≡ other (codes "steps.") (member_place q j c) s c → called (codes "steps.") (member_place q j c) s c ≡ z) →
       list_all (λ b. b.own.finished) (row_in (replaced old.parts j z)) ≡ false →
       group_made q (members called q s cs) ≡ with_call old j z
   group_changes q s cs j rest old one z way is runs at here off =
-      let mine = makings_are called q s 0 cs in
-      let theirs = makings_are other q s 0 cs in
+      let there = sym (ap (λ (b : Made). call_at b.parts j) is) ∙ at in
       group_other q (members called q s cs) (members other q s cs) old j z is runs
-      (ap (λ (ms : List Made). row_of ms) mine
-      ∙ row_other (making called q s) (making other q s) 0 j cs z
-      (λ k c apart. call_stays A B changed same m g left (codes "steps.") (member_place q k c) s c (off_step q j k rest way apart))
-      (λ c found. ap (λ (n : ℕ). making called q s n c) (omega arith) ∙ here c found (was c found))
-      ∙ ap (λ (ms : List Made). replaced (row_of ms) j z) (sym theirs))
+      (members_other q s cs j rest z way (λ c found. here c found (member_stood q s cs j one c there found)))
       off
-    where
-      was : (c : Call) → slice_get cs j ≡ Some c → one ≡ other (codes "steps.") (member_place q j c) s c
-      was c found =
-          let there : Some one ≡ Some (making other q s (0 + j) c) =
-          sym at ∙ ap (λ (b : Made). call_at b.parts j) is ∙ ap (λ (ms : List Made). call_at (row_of ms) j) (makings_are other q s 0 cs) ∙ numbered_at (making other q s) 0 j cs c found in
-          let next : 0 + j ≡ j = omega arith in
-          let same_member : one ≡ making other q s (0 + j) c = cc in
-          same_member ∙ ap (λ (n : ℕ). making other q s n c) next
 
   pub steps_change : (place : Place) (s : Scope) (declared : List OutputDecl) (gs : List (List Call)) (i : ℕ) (rest : Sels) (old one z : Made) →
       changed ≡ place.sels ++ Group i ∷ rest → old ≡ steps_made other place s declared gs → call_at old.parts i ≡ Some one → IsRunning one → IsRunning z →
@@ -245,6 +252,15 @@ module _ (m : Manifest) (A B : Answers) (changed : Sels) (same : SameBut A B cha
 
 -- ---- a call
 
+-- what an item made
+pub item_stood : (m : Manifest) (B : Answers) (g : Scope) (n : ℕ) (prefix : List ℕ) (place : Place) (scope : Scope) (c : Call) (ds : List Data) (i : ℕ) (one : Made) (x : Data) →
+    call_at (row_of (items_made m B g (calls m B g n) prefix place scope c ds)) i ≡ Some one → slice_get ds i ≡ Some x → one ≡ item_made m B g (calls m B g n) prefix place scope c i x
+item_stood m B g n prefix place scope c ds i one x at found =
+    let there = numbered_at (item_made m B g (calls m B g n) prefix place scope c) 0 i ds x found in
+    let same_item : one ≡ item_made m B g (calls m B g n) prefix place scope c (0 + i) x = cc (at, there) in
+    let next : 0 + i ≡ i = omega arith in
+    same_item ∙ ap (λ (k : ℕ). item_made m B g (calls m B g n) prefix place scope c k x) next
+
 module _ (m : Manifest) (A B : Answers) (g : Scope) where
   -- a call that runs went on
   pub went_on : (n : ℕ) (prefix : List ℕ) (place : Place) (scope : Scope) (c : Call) (old : Made) → old ≡ calls m B g (suc n) prefix place scope c → IsRunning old →
@@ -266,6 +282,19 @@ module _ (m : Manifest) (A B : Answers) (g : Scope) where
       ap (λ (o : Option Made). unless_stopped o (each_made m A g (calls m A g n) prefix place scope c c.each)) went.0
       ∙ ap (each_made m A g (calls m A g n) prefix place scope c) single
       ∙ new n (went.1 ∙ ap (each_made m B g (calls m B g n) prefix place scope c) single)
+
+  -- the items of a looped call, of which one changed
+  pub items_other : (changed : Sels) → SameBut A B changed → (n : ℕ) (prefix : List ℕ) (place : Place) (scope : Scope) (c : Call) (i : ℕ) (rest : Sels) (ds : List Data) (z : Made) → changed ≡ place.sels ++ Item i ∷ rest →
+      ((x : Data) → slice_get ds i ≡ Some x → item_made m A g (calls m A g n) prefix place scope c i x ≡ z) →
+      row_of (items_made m A g (calls m A g n) prefix place scope c ds) ≡ replaced (row_of (items_made m B g (calls m B g n) prefix place scope c ds)) i z
+  items_other changed same n prefix place scope c i rest ds z way here =
+      row_other (item_made m A g (calls m A g n) prefix place scope c) (item_made m B g (calls m B g n) prefix place scope c) 0 i ds z
+      (λ k x apart. item_stays A B changed same m g n prefix place scope c k x (off_item k x apart))
+      (λ x found. ap (λ (k : ℕ). item_made m A g (calls m A g n) prefix place scope c k x) (omega arith) ∙ here x found)
+    where
+      off_item : (k : ℕ) (x : Data) → (k ≡ 0 + i → ⊥) → IsOff changed (item_place place k x).sels
+      off_item k x apart =
+          subst (λ (p : Sels). IsOff p (place.sels ++ Item k ∷ [])) (sym way) (off_other_child place.sels rest [] (Item i) (Item k) (ne_eqb i k (λ e. apart (omega (arith, e)))))
 
   -- a looped call, of which an item changed
   pub loop_changes : (changed : Sels) → SameBut A B changed → (left : ℕ) (prefix : List ℕ) (place : Place) (scope : Scope) (c : Call) (l : Loop) (i : ℕ) (rest : Sels) (old one z : Made) →
@@ -291,23 +320,9 @@ module _ (m : Manifest) (A B : Answers) (g : Scope) where
           let clash : Skipped ≡ Running = sym (ap (λ (b : Made). b.own.node.phase) was) ∙ runs in
           absurd (cc)
       by (Ok (d ∷ ds)) was =
-          let mine = item_made m A g (calls m A g n) prefix place scope c in
           let theirs = item_made m B g (calls m B g n) prefix place scope c in
-          let declared = declared_by (template_named m c.template) in
           let there = sym (ap (λ (b : Made). call_at b.parts i) was) ∙ at in
-          loop_other place declared (numbered mine 0 (d ∷ ds)) (numbered theirs 0 (d ∷ ds)) old one z i was there unfinished
-          (row_other mine theirs 0 i (d ∷ ds) z
-          (λ k x apart. item_stays A B changed same m g n prefix place scope c k x (off_item k x apart))
-          (λ x found. ap (λ (k : ℕ). mine k x) (omega arith) ∙ new n (item_place place i x) (item_tags x ++ scope) refl (was_item x found there)))
+          loop_other place (declared_by (template_named m c.template)) (items_made m A g (calls m A g n) prefix place scope c (d ∷ ds)) (numbered theirs 0 (d ∷ ds)) old z i was (unfinished_row (numbered theirs 0 (d ∷ ds)) i one there unfinished)
+          (items_other changed same n prefix place scope c i rest (d ∷ ds) z way
+          (λ x found. new n (item_place place i x) (item_tags x ++ scope) refl (item_stood m B g n prefix place scope c (d ∷ ds) i one x there found)))
           off
-        where
-          off_item : (k : ℕ) (x : Data) → (k ≡ 0 + i → ⊥) → IsOff changed (item_place place k x).sels
-          off_item k x apart =
-              subst (λ (p : Sels). IsOff p (place.sels ++ Item k ∷ [])) (sym way) (off_other_child place.sels rest [] (Item i) (Item k) (ne_eqb i k (λ e. apart (omega (arith, e)))))
-
-          was_item : (x : Data) → slice_get (d ∷ ds) i ≡ Some x → call_at (row_of (numbered (item_made m B g (calls m B g n) prefix place scope c) 0 (d ∷ ds))) i ≡ Some one → one ≡ one_made m B g (calls m B g n) prefix (item_place place i x) (item_tags x ++ scope) c
-          was_item x found there =
-              let numbered_there = numbered_at (item_made m B g (calls m B g n) prefix place scope c) 0 i (d ∷ ds) x found in
-              let same_item : one ≡ item_made m B g (calls m B g n) prefix place scope c (0 + i) x = cc (there, numbered_there) in
-              let next : 0 + i ≡ i = omega arith in
-              same_item ∙ ap (λ (k : ℕ). item_made m B g (calls m B g n) prefix place scope c k x) next

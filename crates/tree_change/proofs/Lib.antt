@@ -4,6 +4,8 @@ mod Calling
 mod Changing
 mod Entering
 mod Given
+mod Keeping
 mod Opening
+mod Placing
 mod Rows
 mod Tasks

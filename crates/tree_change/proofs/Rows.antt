@@ -71,6 +71,12 @@ over_phase q p parts = made (node q kind.StepGroup p note.None no_outputs) [] pa
 runs_open : (ms : List Member) → all_finished (makings ms) ≡ false → group_phase ms ≡ Running
 runs_open ms off = ap (λ (b : Bool). cond b (worst_of (map member_phase ms)) Running) off
 
+-- a group of which a member is not finished runs
+pub group_runs : (q : Place) (ms : List Member) (old : Made) → old ≡ group_made q ms → all_finished (row_in old.parts) ≡ false → IsRunning old
+group_runs q ms old is off =
+    let open_row : all_finished (makings ms) ≡ false = sym (finished_row ms) ∙ sym (ap (λ (b : Made). all_finished (row_in b.parts)) is) ∙ off in
+    ap (λ (b : Made). b.own.node.phase) is ∙ runs_open ms open_row
+
 -- a group of which a member is not finished, with one other member
 pub group_other : (q : Place) (xs ys : List Member) (old : Made) (j : ℕ) (z : Made) → old ≡ group_made q ys → IsRunning old →
     row_of (makings xs) ≡ replaced (row_of (makings ys)) j z → list_all (λ m. m.own.finished) (row_in (replaced old.parts j z)) ≡ false →
@@ -177,7 +183,7 @@ module _ (called other : Caller) (place : Place) where
 -- ---- a looped call
 
 -- a row with a call that is not finished
-unfinished_row : (ms : List Made) (i : ℕ) (one : Made) → call_at (row_of ms) i ≡ Some one → one.own.finished ≡ false → all_finished ms ≡ false
+pub unfinished_row : (ms : List Made) (i : ℕ) (one : Made) → call_at (row_of ms) i ≡ Some one → one.own.finished ≡ false → all_finished ms ≡ false
 unfinished_row [] i one at off = absurd (cc)
 unfinished_row (m ∷ ms) zero one at off =
     let same : record { own = m.own; parts = m.parts } ≡ one = cc in
@@ -212,12 +218,12 @@ over_seen place seen parts = record {
   parts = parts;
 }
 
-pub loop_other : (place : Place) (ds : List OutputDecl) (xs ys : List Made) (old one z : Made) (i : ℕ) → old ≡ loop_made place ds ys → call_at (row_of ys) i ≡ Some one → one.own.finished ≡ false →
+-- a loop of which an item is not finished, with one other item
+pub loop_other : (place : Place) (ds : List OutputDecl) (xs ys : List Made) (old z : Made) (i : ℕ) → old ≡ loop_made place ds ys → all_finished ys ≡ false →
     row_of xs ≡ replaced (row_of ys) i z → all_finished (row_in (replaced old.parts i z)) ≡ false → loop_made place ds xs ≡ with_item old i z
-loop_other place ds xs ys old one z i is at unfinished rows off =
+loop_other place ds xs ys old z i is open_then rows off =
     let parts : replaced old.parts i z ≡ row_of xs = ap (λ (b : Made). replaced b.parts i z) is ∙ sym rows in
     let open_now : all_finished xs ≡ false = sym (ap (λ (ms : List Made). all_finished ms) (row_in_row xs)) ∙ ap (λ (p : Parts). all_finished (row_in p)) (sym parts) ∙ off in
-    let open_then : all_finished ys ≡ false = unfinished_row ys i one at unfinished in
     let was : old ≡ loop_over place ds ys false = is ∙ ap (loop_over place ds ys) open_then in
     ap (loop_over place ds xs) open_now
     ∙ ap (λ (ms : List Made). over_seen place ms (row_of xs)) (sym (row_in_row xs))

@@ -1,6 +1,7 @@
 pub mod Asking
 pub mod Changes
 pub mod Entered
+pub mod Inside
 pub mod Open
 pub use Rattle.locality.specs.Answered
 pub use Rattle.meaning.specs.Trees

@@ -10,23 +10,28 @@ ghost use Rattle.meaning.specs.Steps as steps;
 ghost use Rattle.meaning.specs.Trees as trees;
 ghost use Rattle.locality.specs.Answered.{SameBut};
 ghost use Rattle.tree_state.specs.Counting.{Gives};
+ghost use Rattle.tree_state.specs.Replacing.{call_at};
 ghost use Rattle.tree_walk.specs.Index.{IsReady};
 ghost use Rattle.tree_walk.specs.Walkable.{IsNamed, AreNamed, IsWalkable};
-ghost use Rattle.tree_walk.specs.Walking.{GivesRow, GivesGroups, GivesGroup, hook_depth, label_of, prefix_of};
+ghost use Rattle.tree_walk.specs.Walking.{hook_depth, label_of, prefix_of};
 ghost use Rattle.tree_change.specs.Entered.{IsRunning};
+ghost use Rattle.tree_change.specs.Inside.Groups.{KeepsGroup, KeepsGroups};
+ghost use Rattle.tree_change.specs.Inside.Resuming.{Resumes, calls_now, calls_before};
 
-use crate::leaf::is_running;
-use crate::share::{behind, group_below, shared, shared_group, task_below};
+use crate::leaf::{is_running, runs_on};
+use crate::share::{
+    group_below, item_below, member_below, shared_group, take_others, task_below, untagged,
+};
 use base_types::{List, Text, TryCopy};
 use call_nodes::{copy_place, group_place, item_place, member_place};
 use call_texts::{item_scope, loop_items, said, template_scope};
 use fanout::Items;
-use leaf_states::{lone, saving};
+use leaf_states::saving;
 use meaning::Place;
 use recorded::Recorded;
 use scopes::Scope;
 use tree_state::{Room, Shared, State, TreeRefused};
-use tree_types::{Kind, Note, Phase, Sel};
+use tree_types::Sel;
 use tree_walk::{
     After, FURTHER_DEPTHS, Group, Listed, Positions, Row, Walk, group_over, steps_over, top_state,
 };
@@ -115,19 +120,11 @@ impl<R: Recorded> Again<'_, R> {
         left: u32,
         room: &mut Room,
     ) -> Result<State, TreeRefused>
-        requires ready { IsReady self.now.walk.manifest.now self.now.walk.positions.now }
+        requires resumes { Resumes R.answers self.now (place.sels ++ rest.now) }
         requires shallow { place.depth + 5 * left + 5 < 1000 }
-        requires same { let A = R.answers self.now.walk.recorded.now in
-            SameBut A (R.answers self.now.before.now) (place.sels ++ rest.now) }
-        requires was { let m = self.now.walk.manifest.now in
-            let B = R.answers self.now.before.now in
-            let g = self.now.walk.globals.now in
-            old.now ≡ meant.calls m B g left (prefix_of of) place scope.now call.now }
-        ensures { let m = self.now.walk.manifest.now in
-            let A = R.answers self.now.walk.recorded.now in
-            let g = self.now.walk.globals.now in
-            Gives room.old room.new result
-            (meant.calls m A g left (prefix_of of) place scope.now call.now) }
+        requires was { old.now ≡ calls_before R.answers self.now left (prefix_of of) place scope.now call.now }
+        ensures { Gives room.old room.new result
+            (calls_now R.answers self.now left (prefix_of of) place scope.now call.now) }
     {
         if left == 0 {
             return self.walk.call(of, place, scope, call, left, room);
@@ -138,12 +135,29 @@ impl<R: Recorded> Again<'_, R> {
         let Some(each) = &call.each else {
             return self.one(of, place, scope, call, old, rest, left - 1, room);
         };
+        let Some((i, item, others)) = item_below(old, rest) else {
+            return self.walk.call(of, place, scope, call, left, room);
+        };
         match loop_items(self.walk.alloc(), each, scope) {
-            Ok(items) => self.looped(of, place, scope, call, &items, old, rest, left - 1, room),
+            Ok(items) => self.looped(
+                of,
+                place,
+                scope,
+                call,
+                &items,
+                old,
+                i,
+                item,
+                others,
+                left - 1,
+                room,
+            ),
             Err(_) => self.walk.call(of, place, scope, call, left, room),
         }
     }
 
+    // A looped call whose node ran, where the path goes down into its item `i`. All other items stay as they are: only where
+    // all items are finished now are they gone through.
     #[cycle(again)]
     fn looped(
         &self,
@@ -153,15 +167,16 @@ impl<R: Recorded> Again<'_, R> {
         call: &Call,
         items: &Items,
         old: &State,
+        i: u32,
+        before: &State,
         rest: &[Sel],
         left: u32,
         room: &mut Room,
     ) -> Result<State, TreeRefused>
-        requires ready { IsReady self.now.walk.manifest.now self.now.walk.positions.now }
+        requires resumes { Resumes R.answers self.now (place.sels ++ sels.Item i ∷ rest.now) }
         requires whole { All (λ item. IsTrue (is_whole item)) items.now }
         requires shallow { place.depth + 5 * left + 10 < 1000 }
-        requires same { let A = R.answers self.now.walk.recorded.now in
-            SameBut A (R.answers self.now.before.now) (place.sels ++ rest.now) }
+        requires at { call_at old.now.parts i ≡ Some before.now }
         requires was { let m = self.now.walk.manifest.now in
             let B = R.answers self.now.before.now in
             let g = self.now.walk.globals.now in
@@ -172,56 +187,18 @@ impl<R: Recorded> Again<'_, R> {
             Gives room.old room.new result
             (meant.looped m A g (meant.calls m A g left) (prefix_of of) place scope.now call.now (Ok items.now)) }
     {
-        if items.is_empty() {
-            return lone(place, Kind::Skipped, Phase::Skipped, Note::NoItems, room);
+        take_others(old, before, room)?;
+        let item = items.get(i as usize);
+        let new = self.item(of, &place, scope, call, i, item, before, rest, left, room)?;
+        let state = old.with_item(i as usize, new)?;
+        if runs_on(old, &state) {
+            return Ok(state);
         }
-        room.take()?;
-        let before = old.calls()?;
-        let states = self.items(of, &place, scope, call, items, &before, rest, left, room)?;
+        let states = state.calls()?;
         Ok(self.walk.loop_of(place, call, states)?)
     }
 
-    #[cycle(again)]
-    fn items(
-        &self,
-        of: Listed,
-        place: &Place,
-        scope: &Scope,
-        call: &Call,
-        items: &Items,
-        old: &List<Shared>,
-        rest: &[Sel],
-        left: u32,
-        room: &mut Room,
-    ) -> Result<List<Shared>, TreeRefused>
-        requires ready { IsReady self.now.walk.manifest.now self.now.walk.positions.now }
-        requires whole { All (λ item. IsTrue (is_whole item)) items.now }
-        requires few { room.now ≤ most_nodes }
-        requires shallow { place.now.depth + 5 * left + 10 < 1000 }
-        requires same { let A = R.answers self.now.walk.recorded.now in
-            SameBut A (R.answers self.now.before.now) (place.now.sels ++ rest.now) }
-        requires was { let m = self.now.walk.manifest.now in
-            let B = R.answers self.now.before.now in
-            let g = self.now.walk.globals.now in
-            old.now ≡ meant.items_made m B g (meant.calls m B g left) (prefix_of of) place.now scope.now call.now items.now }
-        ensures { let m = self.now.walk.manifest.now in
-            let A = R.answers self.now.walk.recorded.now in
-            let g = self.now.walk.globals.now in
-            GivesRow room.old room.new result
-            (meant.items_made m A g (meant.calls m A g left) (prefix_of of) place.now scope.now call.now items.now) }
-    {
-        let mut states = List::new(self.walk.alloc());
-        let mut i: u32 = 0;
-        for item in items.as_slice() {
-            let before = old.get(i as usize);
-            let state = self.item(of, place, scope, call, i, item, before, rest, left, room)?;
-            states.push(state)?;
-            i += 1;
-        }
-        Ok(states)
-    }
-
-    // An item of a looped call, which is shared where the path does not go down into it.
+    // An item of a looped call.
     #[cycle(again)]
     fn item(
         &self,
@@ -231,16 +208,14 @@ impl<R: Recorded> Again<'_, R> {
         call: &Call,
         i: u32,
         item: &Json,
-        old: &Shared,
+        old: &State,
         rest: &[Sel],
         left: u32,
         room: &mut Room,
-    ) -> Result<Shared, TreeRefused>
-        requires ready { IsReady self.now.walk.manifest.now self.now.walk.positions.now }
+    ) -> Result<State, TreeRefused>
+        requires resumes { Resumes R.answers self.now (place.now.sels ++ sels.Item i ∷ rest.now) }
         requires whole { IsTrue (is_whole item.now) }
         requires shallow { place.now.depth + 5 * left + 10 < 1000 }
-        requires same { let A = R.answers self.now.walk.recorded.now in
-            SameBut A (R.answers self.now.before.now) (place.now.sels ++ rest.now) }
         requires was { let m = self.now.walk.manifest.now in
             let B = R.answers self.now.before.now in
             let g = self.now.walk.globals.now in
@@ -251,13 +226,9 @@ impl<R: Recorded> Again<'_, R> {
             Gives room.old room.new result
             (meant.item_made m A g (meant.calls m A g left) (prefix_of of) place.now scope.now call.now i item.now) }
     {
-        let Some(others) = behind(rest, Sel::Item(i)) else {
-            return shared(old, room);
-        };
         let inner = item_scope(self.walk.alloc(), scope, item)?;
         let at = item_place(self.walk.alloc(), place, i, item)?;
-        let state = self.one(of, at, &inner, call, old.state(), others, left, room)?;
-        Ok(Shared::new(state)?)
+        self.one(of, at, &inner, call, old, rest, left, room)
     }
 
     // One item of a call, or a call without a loop.
@@ -273,10 +244,8 @@ impl<R: Recorded> Again<'_, R> {
         left: u32,
         room: &mut Room,
     ) -> Result<State, TreeRefused>
-        requires ready { IsReady self.now.walk.manifest.now self.now.walk.positions.now }
+        requires resumes { Resumes R.answers self.now (place.sels ++ rest.now) }
         requires shallow { place.depth + 5 * left + 9 < 1000 }
-        requires same { let A = R.answers self.now.walk.recorded.now in
-            SameBut A (R.answers self.now.before.now) (place.sels ++ rest.now) }
         requires was { let m = self.now.walk.manifest.now in
             let B = R.answers self.now.before.now in
             let g = self.now.walk.globals.now in
@@ -323,10 +292,8 @@ impl<R: Recorded> Again<'_, R> {
         left: u32,
         room: &mut Room,
     ) -> Result<State, TreeRefused>
-        requires ready { IsReady self.now.walk.manifest.now self.now.walk.positions.now }
+        requires resumes { Resumes R.answers self.now (place.sels ++ rest.now) }
         requires shallow { place.depth + 5 * left + 8 + hook_depth after.exit < 1000 }
-        requires same { let A = R.answers self.now.walk.recorded.now in
-            SameBut A (R.answers self.now.before.now) (place.sels ++ rest.now) }
         requires runs { IsRunning old.now }
         requires was { let m = self.now.walk.manifest.now in
             let B = R.answers self.now.before.now in
@@ -367,16 +334,12 @@ impl<R: Recorded> Again<'_, R> {
         left: u32,
         room: &mut Room,
     ) -> Result<State, TreeRefused>
-        requires ready { IsReady self.now.walk.manifest.now self.now.walk.positions.now }
+        requires resumes { Resumes R.answers self.now (place.sels ++ rest.now) }
         requires walkable { IsWalkable template.now }
         requires shallow { place.depth + 5 * left + 8 + hook_depth after.exit < 1000 }
-        requires same { let A = R.answers self.now.walk.recorded.now in
-            SameBut A (R.answers self.now.before.now) (place.sels ++ rest.now) }
         requires runs { IsRunning old.now }
-        requires was { let m = self.now.walk.manifest.now in
-            let B = R.answers self.now.before.now in
-            let g = self.now.walk.globals.now in
-            old.now ≡ meant.template_made B (meant.calls m B g left) place inner.now template.now }
+        requires was { let B = R.answers self.now.before.now in
+            old.now ≡ meant.template_made B (calls_before R.answers self.now left) place inner.now template.now }
         ensures { let m = self.now.walk.manifest.now in
             let A = R.answers self.now.walk.recorded.now in
             let g = self.now.walk.globals.now in
@@ -404,21 +367,15 @@ impl<R: Recorded> Again<'_, R> {
         left: u32,
         room: &mut Room,
     ) -> Result<State, TreeRefused>
-        requires ready { IsReady self.now.walk.manifest.now self.now.walk.positions.now }
+        requires resumes { Resumes R.answers self.now (place.sels ++ rest.now) }
         requires walkable { IsWalkable template.now }
         requires shallow { place.depth + 5 * left + 8 < 1000 }
-        requires same { let A = R.answers self.now.walk.recorded.now in
-            SameBut A (R.answers self.now.before.now) (place.sels ++ rest.now) }
         requires runs { IsRunning old.now }
-        requires was { let m = self.now.walk.manifest.now in
-            let B = R.answers self.now.before.now in
-            let g = self.now.walk.globals.now in
-            old.now ≡ meant.template_made B (meant.calls m B g left) place scope.now template.now }
-        ensures { let m = self.now.walk.manifest.now in
-            let A = R.answers self.now.walk.recorded.now in
-            let g = self.now.walk.globals.now in
+        requires was { let B = R.answers self.now.before.now in
+            old.now ≡ meant.template_made B (calls_before R.answers self.now left) place scope.now template.now }
+        ensures { let A = R.answers self.now.walk.recorded.now in
             Gives room.old room.new result
-            (meant.template_made A (meant.calls m A g left) place scope.now template.now) }
+            (meant.template_made A (calls_now R.answers self.now left) place scope.now template.now) }
     {
         let Some((groups, j, others)) = group_below(template, rest) else {
             return self.other(place, scope, template, old, rest, left, room);
@@ -447,21 +404,15 @@ impl<R: Recorded> Again<'_, R> {
         left: u32,
         room: &mut Room,
     ) -> Result<State, TreeRefused>
-        requires ready { IsReady self.now.walk.manifest.now self.now.walk.positions.now }
+        requires resumes { Resumes R.answers self.now (place.sels ++ rest.now) }
         requires walkable { IsWalkable template.now }
         requires shallow { place.depth + 5 * left + 8 < 1000 }
-        requires same { let A = R.answers self.now.walk.recorded.now in
-            SameBut A (R.answers self.now.before.now) (place.sels ++ rest.now) }
         requires runs { IsRunning old.now }
-        requires was { let m = self.now.walk.manifest.now in
-            let B = R.answers self.now.before.now in
-            let g = self.now.walk.globals.now in
-            old.now ≡ meant.template_made B (meant.calls m B g left) place scope.now template.now }
-        ensures { let m = self.now.walk.manifest.now in
-            let A = R.answers self.now.walk.recorded.now in
-            let g = self.now.walk.globals.now in
+        requires was { let B = R.answers self.now.before.now in
+            old.now ≡ meant.template_made B (calls_before R.answers self.now left) place scope.now template.now }
+        ensures { let A = R.answers self.now.walk.recorded.now in
             Gives room.old room.new result
-            (meant.template_made A (meant.calls m A g left) place scope.now template.now) }
+            (meant.template_made A (calls_now R.answers self.now left) place scope.now template.now) }
     {
         let Some((dag, j, others)) = task_below(template, rest) else {
             return self.walk.template(place, scope, template, left, room);
@@ -494,20 +445,12 @@ impl<R: Recorded> Again<'_, R> {
         left: u32,
         room: &mut Room,
     ) -> Result<State, TreeRefused>
-        requires ready { IsReady self.now.walk.manifest.now self.now.walk.positions.now }
+        requires resumes { Resumes R.answers self.now (place.sels ++ sels.Group j ∷ rest.now) }
         requires named { AreNamed groups.now }
         requires shallow { place.depth + 5 * left + 8 < 1000 }
-        requires same { let A = R.answers self.now.walk.recorded.now in
-            SameBut A (R.answers self.now.before.now) (place.sels ++ sels.Group j ∷ rest.now) }
-        requires was { let m = self.now.walk.manifest.now in
-            let B = R.answers self.now.before.now in
-            let g = self.now.walk.globals.now in
-            old.now ≡ steps.steps_made (meant.calls m B g left) place scope.now declared.now groups.now }
-        ensures { let m = self.now.walk.manifest.now in
-            let A = R.answers self.now.walk.recorded.now in
-            let g = self.now.walk.globals.now in
-            Gives room.old room.new result (meant.saving place memoize.now key
-            (steps.steps_made (meant.calls m A g left) place scope.now declared.now groups.now)) }
+        requires was { old.now ≡ steps.steps_made (calls_before R.answers self.now left) place scope.now declared.now groups.now }
+        ensures { Gives room.old room.new result (meant.saving place memoize.now key
+            (steps.steps_made (calls_now R.answers self.now left) place scope.now declared.now groups.now)) }
     {
         let at = place.sels.copy()?;
         let state = self.steps(place, scope, declared, groups, old, j, rest, left, room)?;
@@ -528,20 +471,12 @@ impl<R: Recorded> Again<'_, R> {
         left: u32,
         room: &mut Room,
     ) -> Result<State, TreeRefused>
-        requires ready { IsReady self.now.walk.manifest.now self.now.walk.positions.now }
+        requires resumes { Resumes R.answers self.now (place.sels ++ sels.Group j ∷ rest.now) }
         requires named { AreNamed groups.now }
         requires shallow { place.depth + 5 * left + 8 < 1000 }
-        requires same { let A = R.answers self.now.walk.recorded.now in
-            SameBut A (R.answers self.now.before.now) (place.sels ++ sels.Group j ∷ rest.now) }
-        requires was { let m = self.now.walk.manifest.now in
-            let B = R.answers self.now.before.now in
-            let g = self.now.walk.globals.now in
-            old.now ≡ steps.steps_made (meant.calls m B g left) place scope.now declared.now groups.now }
-        ensures { let m = self.now.walk.manifest.now in
-            let A = R.answers self.now.walk.recorded.now in
-            let g = self.now.walk.globals.now in
-            Gives room.old room.new result
-            (steps.steps_made (meant.calls m A g left) place scope.now declared.now groups.now) }
+        requires was { old.now ≡ steps.steps_made (calls_before R.answers self.now left) place scope.now declared.now groups.now }
+        ensures { Gives room.old room.new result
+            (steps.steps_made (calls_now R.answers self.now left) place scope.now declared.now groups.now) }
     {
         room.take()?;
         let before = old.calls()?;
@@ -562,21 +497,13 @@ impl<R: Recorded> Again<'_, R> {
         left: u32,
         room: &mut Room,
     ) -> Result<Row, TreeRefused>
-        requires ready { IsReady self.now.walk.manifest.now self.now.walk.positions.now }
+        requires resumes { Resumes R.answers self.now (place.now.sels ++ sels.Group j ∷ rest.now) }
         requires named { AreNamed groups.now }
         requires few { room.now ≤ most_nodes }
         requires shallow { place.now.depth + 5 * left + 8 < 1000 }
-        requires same { let A = R.answers self.now.walk.recorded.now in
-            SameBut A (R.answers self.now.before.now) (place.now.sels ++ sels.Group j ∷ rest.now) }
-        requires was { let m = self.now.walk.manifest.now in
-            let B = R.answers self.now.before.now in
-            let g = self.now.walk.globals.now in
-            old.now ≡ (steps.groups_from (meant.calls m B g left) place.now 0 scope.now groups.now).all }
-        ensures { let m = self.now.walk.manifest.now in
-            let A = R.answers self.now.walk.recorded.now in
-            let g = self.now.walk.globals.now in
-            GivesGroups room.old room.new result
-            (steps.groups_from (meant.calls m A g left) place.now 0 scope.now groups.now) }
+        requires was { old.now ≡ (steps.groups_from (calls_before R.answers self.now left) place.now 0 scope.now groups.now).all }
+        ensures { KeepsGroups room.old room.new result
+            (steps.groups_from (calls_now R.answers self.now left) place.now 0 scope.now groups.now) }
     {
         let mut row = Row::new(self.walk.alloc(), scope)?;
         let mut i: u32 = 0;
@@ -606,21 +533,13 @@ impl<R: Recorded> Again<'_, R> {
         left: u32,
         room: &mut Room,
     ) -> Result<Group, TreeRefused>
-        requires ready { IsReady self.now.walk.manifest.now self.now.walk.positions.now }
+        requires resumes { Resumes R.answers self.now (place.now.sels ++ sels.Group j ∷ rest.now) }
         requires named { All IsNamed calls.now }
         requires shallow { place.now.depth + 5 * left + 8 < 1000 }
-        requires same { let A = R.answers self.now.walk.recorded.now in
-            SameBut A (R.answers self.now.before.now) (place.now.sels ++ sels.Group j ∷ rest.now) }
-        requires was { let m = self.now.walk.manifest.now in
-            let B = R.answers self.now.before.now in
-            let g = self.now.walk.globals.now in
-            i ≤ j → slice_get old.now i ≡ Some (steps.group_made (steps.group_place place.now i)
-            (steps.members_at (meant.calls m B g left) place.now i scope.now calls.now)) }
-        ensures { let m = self.now.walk.manifest.now in
-            let A = R.answers self.now.walk.recorded.now in
-            let g = self.now.walk.globals.now in
-            GivesGroup room.old room.new result (steps.group_place place.now i)
-            (steps.members_at (meant.calls m A g left) place.now i scope.now calls.now) }
+        requires was { i ≤ j → slice_get old.now i ≡ Some (steps.group_made (steps.group_place place.now i)
+            (steps.members_at (calls_before R.answers self.now left) place.now i scope.now calls.now)) }
+        ensures { KeepsGroup room.old room.new result (steps.group_place place.now i)
+            (steps.members_at (calls_now R.answers self.now left) place.now i scope.now calls.now) }
     {
         if i < j {
             return shared_group(calls, old.get(i as usize), room);
@@ -633,7 +552,8 @@ impl<R: Recorded> Again<'_, R> {
         self.group(at, scope, calls, before, rest, left, room)
     }
 
-    // A group of steps.
+    // A group of steps, with the tags of its members where it Succeeded. Where it runs on, all members but the one that the
+    // path goes down into stay as they are.
     #[cycle(again)]
     fn group(
         &self,
@@ -645,66 +565,28 @@ impl<R: Recorded> Again<'_, R> {
         left: u32,
         room: &mut Room,
     ) -> Result<Group, TreeRefused>
-        requires ready { IsReady self.now.walk.manifest.now self.now.walk.positions.now }
+        requires resumes { Resumes R.answers self.now (place.sels ++ rest.now) }
         requires named { All IsNamed calls.now }
         requires shallow { place.depth + 5 * left + 7 < 1000 }
-        requires same { let A = R.answers self.now.walk.recorded.now in
-            SameBut A (R.answers self.now.before.now) (place.sels ++ rest.now) }
-        requires was { let m = self.now.walk.manifest.now in
-            let B = R.answers self.now.before.now in
-            let g = self.now.walk.globals.now in
-            old.now ≡ steps.group_made place (steps.members (meant.calls m B g left) place scope.now calls.now) }
-        ensures { let m = self.now.walk.manifest.now in
-            let A = R.answers self.now.walk.recorded.now in
-            let g = self.now.walk.globals.now in
-            GivesGroup room.old room.new result place
-            (steps.members (meant.calls m A g left) place scope.now calls.now) }
+        requires was { old.now ≡ steps.group_made place (steps.members (calls_before R.answers self.now left) place scope.now calls.now) }
+        ensures { KeepsGroup room.old room.new result place
+            (steps.members (calls_now R.answers self.now left) place scope.now calls.now) }
     {
-        room.take()?;
-        let before = old.calls()?;
-        let states = self.members(&place, scope, calls, &before, rest, left, room)?;
+        let Some((j, before, others)) = member_below(old, rest) else {
+            return self.walk.group(place, scope, calls, left, room);
+        };
+        take_others(old, before, room)?;
+        let call = calls.get(j as usize);
+        let new = self.member(&place, j, scope, call, before, others, left, room)?;
+        let state = old.with_call(j as usize, new)?;
+        if runs_on(old, &state) {
+            return Ok(untagged(self.walk.alloc(), state)?);
+        }
+        let states = state.calls()?;
         Ok(group_over(place, calls, states)?)
     }
 
-    #[cycle(again)]
-    fn members(
-        &self,
-        group: &Place,
-        scope: &Scope,
-        calls: &Calls,
-        old: &List<Shared>,
-        rest: &[Sel],
-        left: u32,
-        room: &mut Room,
-    ) -> Result<List<Shared>, TreeRefused>
-        requires ready { IsReady self.now.walk.manifest.now self.now.walk.positions.now }
-        requires named { All IsNamed calls.now }
-        requires few { room.now ≤ most_nodes }
-        requires shallow { group.now.depth + 5 * left + 6 < 1000 }
-        requires same { let A = R.answers self.now.walk.recorded.now in
-            SameBut A (R.answers self.now.before.now) (group.now.sels ++ rest.now) }
-        requires was { let m = self.now.walk.manifest.now in
-            let B = R.answers self.now.before.now in
-            let g = self.now.walk.globals.now in
-            old.now ≡ steps.makings (steps.members (meant.calls m B g left) group.now scope.now calls.now) }
-        ensures { let m = self.now.walk.manifest.now in
-            let A = R.answers self.now.walk.recorded.now in
-            let g = self.now.walk.globals.now in
-            GivesRow room.old room.new result
-            (steps.makings (steps.members (meant.calls m A g left) group.now scope.now calls.now)) }
-    {
-        let mut states = List::new(self.walk.alloc());
-        let mut j: u32 = 0;
-        for call in calls.as_slice() {
-            let before = old.get(j as usize);
-            let state = self.member(group, j, scope, call, before, rest, left, room)?;
-            states.push(state)?;
-            j += 1;
-        }
-        Ok(states)
-    }
-
-    // A member of a group, which is shared where the path does not go down into it.
+    // A member of a group.
     #[cycle(again)]
     fn member(
         &self,
@@ -712,32 +594,19 @@ impl<R: Recorded> Again<'_, R> {
         j: u32,
         scope: &Scope,
         call: &Call,
-        old: &Shared,
+        old: &State,
         rest: &[Sel],
         left: u32,
         room: &mut Room,
-    ) -> Result<Shared, TreeRefused>
-        requires ready { IsReady self.now.walk.manifest.now self.now.walk.positions.now }
+    ) -> Result<State, TreeRefused>
+        requires resumes { Resumes R.answers self.now (group.now.sels ++ sels.Step j ∷ rest.now) }
         requires named { IsNamed call.now }
         requires shallow { group.now.depth + 5 * left + 6 < 1000 }
-        requires same { let A = R.answers self.now.walk.recorded.now in
-            SameBut A (R.answers self.now.before.now) (group.now.sels ++ rest.now) }
-        requires was { let m = self.now.walk.manifest.now in
-            let B = R.answers self.now.before.now in
-            let g = self.now.walk.globals.now in
-            old.now ≡ meant.calls m B g left (codes "steps.") (steps.member_place group.now j call.now) scope.now call.now }
-        ensures { let m = self.now.walk.manifest.now in
-            let A = R.answers self.now.walk.recorded.now in
-            let g = self.now.walk.globals.now in
-            Gives room.old room.new result
-            (meant.calls m A g left (codes "steps.") (steps.member_place group.now j call.now) scope.now call.now) }
+        requires was { old.now ≡ calls_before R.answers self.now left (codes "steps.") (steps.member_place group.now j call.now) scope.now call.now }
+        ensures { Gives room.old room.new result
+            (calls_now R.answers self.now left (codes "steps.") (steps.member_place group.now j call.now) scope.now call.now) }
     {
-        let Some(others) = behind(rest, Sel::Step(j)) else {
-            return shared(old, room);
-        };
         let at = member_place(group, j, call)?;
-        let before = old.state();
-        let state = self.call(Listed::Steps, at, scope, call, before, others, left, room)?;
-        Ok(Shared::new(state)?)
+        self.call(Listed::Steps, at, scope, call, old, rest, left, room)
     }
 }

@@ -5,14 +5,13 @@ ghost use Rattle.tree_types.specs.declared.path.Sel.TheVariants as sels;
 ghost use Rattle.scopes.specs.Values.{HasValuesOf};
 ghost use Rattle.meaning.specs.Calls as meant;
 ghost use Rattle.meaning.specs.Dags as dags;
-ghost use Rattle.locality.specs.Answered.{SameBut};
 ghost use Rattle.tree_state.specs.Counting.{Gives};
 ghost use Rattle.tree_walk.specs.Walkable.{IsWalkableDag};
-ghost use Rattle.tree_walk.specs.Index.{IsReady};
 ghost use Rattle.dag_plan.specs.Plans.{IsPlan};
 ghost use Rattle.dag_board.specs.Boards.{IsBoard, IsTurn, stands_at, seen_by};
 ghost use Rattle.dag_stays.specs.Knowing.{WereSo};
 ghost use Rattle.tree_walk.specs.Inside.Tasks.{GivesTask, GivesBoard, stood_count};
+ghost use Rattle.tree_change.specs.Inside.Resuming.{Resumes, calls_now, calls_before};
 
 use crate::again::Again;
 use crate::share::shared;
@@ -48,20 +47,14 @@ impl<R: Recorded> Again<'_, R> {
         left: u32,
         room: &mut Room,
     ) -> Result<State, TreeRefused>
-        requires ready { IsReady self.now.walk.manifest.now self.now.walk.positions.now }
+        requires resumes { Resumes R.answers self.now (place.sels ++ sels.Task j ∷ rest.now) }
         requires walkable { IsWalkableDag dag.now }
         requires shallow { place.depth + 5 * left + 8 < 1000 }
-        requires same { let A = R.answers self.now.walk.recorded.now in
-            SameBut A (R.answers self.now.before.now) (place.sels ++ sels.Task j ∷ rest.now) }
-        requires was { let m = self.now.walk.manifest.now in
-            let B = R.answers self.now.before.now in
-            let g = self.now.walk.globals.now in
-            old.now ≡ dags.dag_made B (meant.calls m B g left) place scope.now declared.now dag.now }
-        ensures { let m = self.now.walk.manifest.now in
-            let A = R.answers self.now.walk.recorded.now in
-            let g = self.now.walk.globals.now in
+        requires was { let B = R.answers self.now.before.now in
+            old.now ≡ dags.dag_made B (calls_before R.answers self.now left) place scope.now declared.now dag.now }
+        ensures { let A = R.answers self.now.walk.recorded.now in
             Gives room.old room.new result (meant.saving place memoize.now key
-            (dags.dag_made A (meant.calls m A g left) place scope.now declared.now dag.now)) }
+            (dags.dag_made A (calls_now R.answers self.now left) place scope.now declared.now dag.now)) }
     {
         let at = place.sels.copy()?;
         let state = self.dag(place, scope, declared, dag, old, j, rest, left, room)?;
@@ -82,20 +75,14 @@ impl<R: Recorded> Again<'_, R> {
         left: u32,
         room: &mut Room,
     ) -> Result<State, TreeRefused>
-        requires ready { IsReady self.now.walk.manifest.now self.now.walk.positions.now }
+        requires resumes { Resumes R.answers self.now (place.sels ++ sels.Task j ∷ rest.now) }
         requires walkable { IsWalkableDag dag.now }
         requires shallow { place.depth + 5 * left + 8 < 1000 }
-        requires same { let A = R.answers self.now.walk.recorded.now in
-            SameBut A (R.answers self.now.before.now) (place.sels ++ sels.Task j ∷ rest.now) }
-        requires was { let m = self.now.walk.manifest.now in
-            let B = R.answers self.now.before.now in
-            let g = self.now.walk.globals.now in
-            old.now ≡ dags.dag_made B (meant.calls m B g left) place scope.now declared.now dag.now }
-        ensures { let m = self.now.walk.manifest.now in
-            let A = R.answers self.now.walk.recorded.now in
-            let g = self.now.walk.globals.now in
+        requires was { let B = R.answers self.now.before.now in
+            old.now ≡ dags.dag_made B (calls_before R.answers self.now left) place scope.now declared.now dag.now }
+        ensures { let A = R.answers self.now.walk.recorded.now in
             Gives room.old room.new result
-            (dags.dag_made A (meant.calls m A g left) place scope.now declared.now dag.now) }
+            (dags.dag_made A (calls_now R.answers self.now left) place scope.now declared.now dag.now) }
     {
         room.take()?;
         let alloc = self.walk.alloc();
@@ -120,19 +107,16 @@ impl<R: Recorded> Again<'_, R> {
         left: u32,
         room: &mut Room,
     ) -> Result<Board, TreeRefused>
-        requires ready { IsReady self.now.walk.manifest.now self.now.walk.positions.now }
+        requires resumes { Resumes R.answers self.now (place.now.sels ++ sels.Task j ∷ rest.now) }
         requires walkable { IsWalkableDag dag.now }
         requires plan { IsPlan dag.now plan.now }
         requires shallow { place.now.depth + 5 * left + 8 < 1000 }
-        requires same { let A = R.answers self.now.walk.recorded.now in
-            SameBut A (R.answers self.now.before.now) (place.now.sels ++ sels.Task j ∷ rest.now) }
         requires were { let m = self.now.walk.manifest.now in
             let B = R.answers self.now.before.now in
             let g = self.now.walk.globals.now in
             WereSo m B g left place.now scope.now dag.now plan.now j were.now }
-        ensures { let m = self.now.walk.manifest.now in
-            let A = R.answers self.now.walk.recorded.now in
-            let called = meant.calls m A self.now.walk.globals.now left in
+        ensures { let A = R.answers self.now.walk.recorded.now in
+            let called = calls_now R.answers self.now left in
             GivesBoard A called place.now scope.now dag.now plan.now.order room.old room.new result }
     {
         let mut board = Board::new(self.walk.alloc(), dag)?;
@@ -160,24 +144,20 @@ impl<R: Recorded> Again<'_, R> {
         left: u32,
         room: &mut Room,
     ) -> Result<(), TreeRefused>
-        requires ready { IsReady self.now.walk.manifest.now self.now.walk.positions.now }
+        requires resumes { Resumes R.answers self.now (place.now.sels ++ sels.Task j ∷ rest.now) }
         requires walkable { IsWalkableDag dag.now }
         requires plan { IsPlan dag.now plan.now }
         requires low { k < length plan.now.order }
-        requires board { let m = self.now.walk.manifest.now in
-            let A = R.answers self.now.walk.recorded.now in
-            let called = meant.calls m A self.now.walk.globals.now left in
+        requires board { let A = R.answers self.now.walk.recorded.now in
+            let called = calls_now R.answers self.now left in
             IsBoard A called place.now scope.now dag.now (take k plan.now.order) board.now }
         requires shallow { place.now.depth + 5 * left + 8 < 1000 }
-        requires same { let A = R.answers self.now.walk.recorded.now in
-            SameBut A (R.answers self.now.before.now) (place.now.sels ++ sels.Task j ∷ rest.now) }
         requires were { let m = self.now.walk.manifest.now in
             let B = R.answers self.now.before.now in
             let g = self.now.walk.globals.now in
             WereSo m B g left place.now scope.now dag.now plan.now j were.now }
-        ensures { let m = self.now.walk.manifest.now in
-            let A = R.answers self.now.walk.recorded.now in
-            let called = meant.calls m A self.now.walk.globals.now left in
+        ensures { let A = R.answers self.now.walk.recorded.now in
+            let called = calls_now R.answers self.now left in
             GivesTask room.old room.new result
             (IsBoard A called place.now scope.now dag.now (take (suc k) plan.now.order) board.new)
             (stood_count (stands_at A called place.now scope.now dag.now (get_or plan.now.order k 0))) }
@@ -214,30 +194,25 @@ impl<R: Recorded> Again<'_, R> {
         left: u32,
         room: &mut Room,
     ) -> Result<(), TreeRefused>
-        requires ready { IsReady self.now.walk.manifest.now self.now.walk.positions.now }
+        requires resumes { Resumes R.answers self.now (place.now.sels ++ sels.Task j ∷ rest.now) }
         requires walkable { IsWalkableDag dag.now }
         requires plan { IsPlan dag.now plan.now }
         requires turn { IsTurn dag.now plan.now k i task.now }
-        requires board { let m = self.now.walk.manifest.now in
-            let A = R.answers self.now.walk.recorded.now in
-            let called = meant.calls m A self.now.walk.globals.now left in
+        requires board { let A = R.answers self.now.walk.recorded.now in
+            let called = calls_now R.answers self.now left in
             IsBoard A called place.now scope.now dag.now (take k plan.now.order) board.now }
-        requires free { let m = self.now.walk.manifest.now in
-            let A = R.answers self.now.walk.recorded.now in
-            let called = meant.calls m A self.now.walk.globals.now left in
+        requires free { let A = R.answers self.now.walk.recorded.now in
+            let called = calls_now R.answers self.now left in
             stands_at A called place.now scope.now dag.now i
             ≡ dags.free A called place.now scope.now dag.now (seen_by A called place.now scope.now dag.now task.now) i task.now }
         requires place { i < length dag.now.tasks }
         requires shallow { place.now.depth + 5 * left + 8 < 1000 }
-        requires same { let A = R.answers self.now.walk.recorded.now in
-            SameBut A (R.answers self.now.before.now) (place.now.sels ++ sels.Task j ∷ rest.now) }
         requires were { let m = self.now.walk.manifest.now in
             let B = R.answers self.now.before.now in
             let g = self.now.walk.globals.now in
             WereSo m B g left place.now scope.now dag.now plan.now j were.now }
-        ensures { let m = self.now.walk.manifest.now in
-            let A = R.answers self.now.walk.recorded.now in
-            let called = meant.calls m A self.now.walk.globals.now left in
+        ensures { let A = R.answers self.now.walk.recorded.now in
+            let called = calls_now R.answers self.now left in
             GivesTask room.old room.new result
             (IsBoard A called place.now scope.now dag.now (take (suc k) plan.now.order) board.new)
             (stood_count (stands_at A called place.now scope.now dag.now i)) }
@@ -272,30 +247,25 @@ impl<R: Recorded> Again<'_, R> {
         left: u32,
         room: &mut Room,
     ) -> Result<Shared, TreeRefused>
-        requires ready { IsReady self.now.walk.manifest.now self.now.walk.positions.now }
+        requires resumes { Resumes R.answers self.now (place.now.sels ++ sels.Task j ∷ rest.now) }
         requires plan { IsPlan dag.now plan.now }
         requires turn { IsTurn dag.now plan.now k i task.now }
-        requires board { let m = self.now.walk.manifest.now in
-            let A = R.answers self.now.walk.recorded.now in
-            let called = meant.calls m A self.now.walk.globals.now left in
+        requires board { let A = R.answers self.now.walk.recorded.now in
+            let called = calls_now R.answers self.now left in
             IsBoard A called place.now scope.now dag.now (take k plan.now.order) board.now }
-        requires begun { let m = self.now.walk.manifest.now in
-            let A = R.answers self.now.walk.recorded.now in
-            let called = meant.calls m A self.now.walk.globals.now left in
+        requires begun { let A = R.answers self.now.walk.recorded.now in
+            let called = calls_now R.answers self.now left in
             stands_at A called place.now scope.now dag.now i
             ≡ dags.begun_task A called place.now scope.now dag.now (seen_by A called place.now scope.now dag.now task.now) i task.now }
         requires place { i < length dag.now.tasks }
         requires at { at ≡ dags.task_place place.now i task.now }
         requires shallow { place.now.depth + 5 * left + 8 < 1000 }
-        requires same { let A = R.answers self.now.walk.recorded.now in
-            SameBut A (R.answers self.now.before.now) (place.now.sels ++ sels.Task j ∷ rest.now) }
         requires were { let m = self.now.walk.manifest.now in
             let B = R.answers self.now.before.now in
             let g = self.now.walk.globals.now in
             WereSo m B g left place.now scope.now dag.now plan.now j were.now }
-        ensures { let m = self.now.walk.manifest.now in
-            let A = R.answers self.now.walk.recorded.now in
-            let called = meant.calls m A self.now.walk.globals.now left in
+        ensures { let A = R.answers self.now.walk.recorded.now in
+            let called = calls_now R.answers self.now left in
             Gives room.old room.new result (called (codes "tasks.") (dags.task_place place.now i task.now)
             (seen_by A called place.now scope.now dag.now task.now ++ scope.now) task.now.call) }
     {
@@ -327,27 +297,21 @@ impl<R: Recorded> Again<'_, R> {
         left: u32,
         room: &mut Room,
     ) -> Result<State, TreeRefused>
-        requires ready { IsReady self.now.walk.manifest.now self.now.walk.positions.now }
+        requires resumes { Resumes R.answers self.now (place.now.sels ++ sels.Task j ∷ rest.now) }
         requires plan { IsPlan dag.now plan.now }
         requires task { slice_get dag.now.tasks i ≡ Some task.now }
         requires place { i < length dag.now.tasks }
         requires at { at ≡ dags.task_place place.now i task.now }
-        requires values { let m = self.now.walk.manifest.now in
-            let A = R.answers self.now.walk.recorded.now in
-            let called = meant.calls m A self.now.walk.globals.now left in
+        requires values { let A = R.answers self.now.walk.recorded.now in
+            let called = calls_now R.answers self.now left in
             HasValuesOf inner.now (seen_by A called place.now scope.now dag.now task.now ++ scope.now) }
         requires shallow { place.now.depth + 5 * left + 8 < 1000 }
-        requires same { let A = R.answers self.now.walk.recorded.now in
-            SameBut A (R.answers self.now.before.now) (place.now.sels ++ sels.Task j ∷ rest.now) }
         requires were { let m = self.now.walk.manifest.now in
             let B = R.answers self.now.before.now in
             let g = self.now.walk.globals.now in
             WereSo m B g left place.now scope.now dag.now plan.now j were.now }
-        ensures { let m = self.now.walk.manifest.now in
-            let A = R.answers self.now.walk.recorded.now in
-            let g = self.now.walk.globals.now in
-            Gives room.old room.new result
-            (meant.calls m A g left (codes "tasks.") at inner.now task.now.call) }
+        ensures { Gives room.old room.new result
+            (calls_now R.answers self.now left (codes "tasks.") at inner.now task.now.call) }
     {
         let Some(old) = were.ran(plan, i) else {
             return self

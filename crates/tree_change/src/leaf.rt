@@ -1,7 +1,8 @@
 //! What is asked of one node and one selector on the way down.
 
-ghost use Rattle.std.specs.Prelude.{◌≡◌, ◌∷◌, ◌&&◌, IfOk, IfSome, IsTrue, None, is_some, option_copied, slice_get};
+ghost use Rattle.std.specs.Prelude.{◌≡◌, ◌∷◌, ◌&&◌, IfOk, IfSome, IsTrue, None, false, is_some, option_copied, slice_get};
 ghost use Rattle.meaning.specs.Calls as calls;
+ghost use Rattle.meaning.specs.Lines.{row_in, all_finished};
 ghost use Rattle.meaning.specs.Pods.{pod_made};
 ghost use Rattle.tree_change.specs.Entered.{IsRunning, place_of};
 ghost use Rattle.tree_change.specs.Open.{unlocked};
@@ -38,6 +39,14 @@ pub fn is_running(state: &State) -> bool
     ensures { IsTrue result → IsRunning state.now }
 {
     matches!(state.phase(), Phase::Running)
+}
+
+/// Whether some call below a node is not finished, and some was not before it changed.
+pub fn runs_on(old: &State, new: &State) -> bool
+    ensures old { IsTrue result → all_finished (row_in old.now.parts) ≡ false }
+    ensures new { IsTrue result → all_finished (row_in new.now.parts) ≡ false }
+{
+    !old.all_finished() && !new.all_finished()
 }
 
 /// Whether an exit hook of a call runs behind a node in this phase.

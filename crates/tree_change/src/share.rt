@@ -1,32 +1,23 @@
 //! What stands beside the way down is shared, and the room of its nodes is taken.
 
-ghost use Rattle.std.specs.Prelude.{◌≡◌, ◌∷◌, [], List as Seq, IfNone, IfSome, map};
+ghost use Rattle.std.specs.Prelude.{◌≡◌, ◌-◌, ◌∷◌, List as Seq, IfOk, IfSome, Some, map};
 ghost use Rattle.wf_manifest.specs.declared.templates.Body.TheVariants as body;
 ghost use Rattle.tree_types.specs.declared.path.Sel.TheVariants as sels;
 ghost use Rattle.meaning.specs.declared.lines.Place.{Place};
 ghost use Rattle.meaning.specs.Steps as steps;
-ghost use Rattle.locality.specs.Paths.{IsOff};
-ghost use Rattle.tree_state.specs.Counting.{Gives};
+ghost use Rattle.tree_state.specs.Counting.{Gives, TakesAll, count};
+ghost use Rattle.tree_state.specs.Replacing.{call_at};
 ghost use Rattle.tree_walk.specs.Walking.{GivesGroup};
 
 use crate::leaf::split;
-use base_types::TryCopy;
+use base_types::{Memory, TryCopy};
 use row_states::group_tags;
-use tree_state::{Room, Shared, TreeRefused};
+use scopes::Tags;
+use std::alloc::Global;
+use tree_state::{Room, Shared, State, TreeRefused};
 use tree_types::Sel;
 use tree_walk::Group;
 use wf_manifest::{Body, Dag, Group as Calls, Groups, Template};
-
-/// What a path has behind this selector, if it begins with it.
-pub fn behind(path: &[Sel], sel: Sel) -> Option<&[Sel]>
-    ensures on { IfSome result (λ others. path.now ≡ sel ∷ others.now) }
-    ensures off { IfNone result (IsOff path.now (sel ∷ [])) }
-{
-    match path {
-        [] => None,
-        [first, others @ ..] => { if *first == sel { Some(others) } else { None } }
-    }
-}
 
 /// The groups of a steps template, the number of the one that a path goes down into, and what the path has behind it.
 pub fn group_below<'a>(
@@ -61,6 +52,39 @@ pub fn task_below<'a>(template: &'a Template, path: &'a [Sel]) -> Option<(&'a Da
     }
 }
 
+/// The number of the item of a looped call that a path goes down into, what it made, and what the path has behind it.
+pub fn item_below<'a>(old: &'a State, path: &'a [Sel]) -> Option<(u32, &'a State, &'a [Sel])>
+    ensures path { IfSome result (λ below. path.now ≡ sels.Item below.0 ∷ below.2.now) }
+    ensures item { IfSome result (λ below. call_at old.now.parts below.0 ≡ Some below.1.now) }
+{
+    let (first, others) = split(path)?;
+    let Sel::Item(i) = first else {
+        return None;
+    };
+    let item = old.call_at(i as usize)?;
+    Some((i, item, others))
+}
+
+/// The number of the member of a group that a path goes down into, what it made, and what the path has behind it.
+pub fn member_below<'a>(old: &'a State, path: &'a [Sel]) -> Option<(u32, &'a State, &'a [Sel])>
+    ensures path { IfSome result (λ below. path.now ≡ sels.Step below.0 ∷ below.2.now) }
+    ensures member { IfSome result (λ below. call_at old.now.parts below.0 ≡ Some below.1.now) }
+{
+    let (first, others) = split(path)?;
+    let Sel::Step(j) = first else {
+        return None;
+    };
+    let member = old.call_at(j as usize)?;
+    Some((j, member, others))
+}
+
+/// Takes the room of all nodes of a state but those of one call below its node.
+pub fn take_others(old: &State, call: &State, room: &mut Room) -> Result<(), TreeRefused>
+    ensures { TakesAll (count old.now - count call.now) room.old room.new result }
+{
+    room.take_all(old.count().saturating_sub(call.count()))
+}
+
 /// What a call made, once more.
 pub fn shared(old: &Shared, room: &mut Room) -> Result<Shared, TreeRefused>
     ensures { Gives room.old room.new result old.now }
@@ -78,4 +102,14 @@ pub fn shared_group(calls: &Calls, old: &Shared, room: &mut Room) -> Result<Grou
     let states = made.state().calls()?;
     let tags = group_tags(calls, &states)?;
     Ok(Group { state: made, tags })
+}
+
+/// A group without the tags of its members, which are not asked for before it Succeeded.
+pub fn untagged(alloc: Global, state: State) -> Result<Group, Memory>
+    ensures { IfOk result (λ group. group.state ≡ state) }
+{
+    Ok(Group {
+        state: Shared::new(state)?,
+        tags: Tags::new(alloc),
+    })
 }

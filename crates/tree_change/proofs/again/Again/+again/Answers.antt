@@ -1,25 +1,27 @@
 -- What a walk that is made again gives.
-use Rattle.std.proofs.Common.{rules, suc, get_or, take, Result, ◌≡◌, ℕ, ◌+◌, ◌<◌, ◌≤◌, List, [], ◌∷◌, ◌++◌, length, drop, Ok, Err, codes, refl, sym, ap, ◌∙◌, subst, arith, IsTrue, All}
+use Rattle.std.proofs.Common.{rules, suc, get_or, take, Result, ◌≡◌, ℕ, ◌+◌, ◌<◌, ◌≤◌, List, ◌∷◌, ◌++◌, length, drop, Ok, Err, codes, refl, sym, ap, ◌∙◌, subst, arith, IsTrue, All}
 use Rattle.std.specs.Prelude.{option_copied, slice_get}
 use Rattle.wf_manifest.proofs.Each.{All-from_list_all}
 use Rattle.fanout.specs.Items.{is_whole}
-use Rattle.tree_types.specs.declared.path.Sel.TheVariants.{Group, Item, Task as task_sel}
+use Rattle.tree_types.specs.declared.path.Sel.TheVariants.{Group, Item, Step, Task as task_sel}
 use Rattle.meaning.specs.declared.lines.Place.{Place}
 use Rattle.meaning.specs.Answers.{Sels}
-use Rattle.meaning.specs.Lines.{Made, row_in, numbered}
-use Rattle.meaning.specs.Steps.{Member, members, members_at, makings, member_place, group_place, group_made, groups_from, steps_made}
-use Rattle.meaning.specs.Calls.{item_made, template_made, hooked, saving, calls}
+use Rattle.meaning.specs.Lines.{Made, row_in}
+use Rattle.meaning.specs.Steps.{Member, members, members_at, member_place, group_place, group_made, groups_from, steps_made}
+use Rattle.meaning.specs.Calls.{looped, template_made, hooked, saving, calls}
 use Rattle.locality.proofs.OffPath.{apart_on_way}
 use Rattle.tree_state.specs.Counting.{Gives}
-use Rattle.row_states.specs.Rows.{count_row}
 use Rattle.tree_walk.specs.Walkable.{IsNamed}
-use Rattle.tree_walk.specs.Walking.{GivesRow, GivesGroups, label_of, prefix_of}
-use Rattle.tree_change.proofs.Beside.{same_below, item_beside, member_beside, group_beside, group_were, groups_were, is_there, numbered_here, numbered_low, group_stood, groups_stood}
-use Rattle.tree_change.proofs.Calling.{alike, called_enters, item_done, hooked_longer, count_saving, steps_done, one_again, looped_was, looped_again, items_were, template_was, item_was}
+use Rattle.tree_walk.specs.Walking.{label_of, prefix_of}
+use Rattle.tree_change.specs.Inside.Groups.{KeepsGroup, KeepsGroups}
+use Rattle.tree_change.proofs.Beside.{same_below, group_beside, groups_were, all_at, group_stood, groups_stood}
+use Rattle.tree_change.proofs.Calling.{alike, called_enters, item_done, hooked_longer, count_saving, one_again, one_was, looped_was, looped_again, template_was, item_was}
 use Rattle.tree_change.proofs.Changing.{steps_template_again, steps_template_saved, dag_were, dag_template_again, dag_template_saved}
 use Rattle.tree_change.proofs.Given.{some_same}
-use Rattle.tree_walk.proofs.Groups.{member_at, members_row, members_calls, turn, group_done, groups_fail, groups_room, groups_next, groups_stop}
-use Rattle.tree_walk.proofs.Rooms.{gives_as, by_err, part_fails, row_next, row_stops, row_done, room_after, few_in_row, long_more}
+use Rattle.tree_walk.proofs.Groups.{members_calls, turn, groups_fail, groups_room, groups_next, groups_done}
+use Rattle.tree_change.proofs.Keeping.{group_keeps, groups_keep, group_refused, groups_refused, seen_over, groups_end, steps_done}
+use Rattle.tree_change.proofs.Placing.{item_low, item_had, item_fails, item_put, items_listed, items_fail, member_low, member_had, member_fails, member_put, members_listed, members_fail}
+use Rattle.tree_walk.proofs.Rooms.{gives_as, by_err, part_fails, few_in_row, long_more}
 use Rattle.meaning.specs.Dags.{task_place, standings, dag_made}
 use Rattle.locality.specs.Answered.{SameBut}
 use Rattle.tree_state.specs.declared.refused.TreeRefused.{TreeRefused}
@@ -41,13 +43,22 @@ call-returns-in_default g t c =
     let B = g.R.Recorded.answers c.args.self.now.before.now in
     one_again m A B c.args.self.now.walk.globals.now c.args.left (prefix_of c.args.of) c.args.place c.args.scope.now c.args.call.now c.args.old.now c.if-left-eq0.false c.requires.was (c.if-not-is_running.ensures refl) c.args.room.now c.one.new.room c.one.result c.in_default.is c.one.ensures
 
+pub call-one-requires : goal.call-one-requires
+call-one-requires g t c κs within =
+    let m = c.args.self.now.walk.manifest.now in
+    let A = g.R.Recorded.answers c.args.self.now.walk.recorded.now in
+    let B = g.R.Recorded.answers c.args.self.now.before.now in
+    let was = one_was m A B c.args.self.now.walk.globals.now c.args.left (prefix_of c.args.of) c.args.place c.args.scope.now c.args.call.now c.args.old.now c.if-left-eq0.false c.requires.was (c.if-not-is_running.ensures refl) c.in_default.is in
+    (omega (arith, c.if-left-eq0.false), (within, (c.requires.resumes, (omega (arith, c.if-left-eq0.false, c.requires.shallow), was))))
+
 pub call-looped-requires : goal.call-looped-requires
 call-looped-requires g t c κs within =
     let m = c.args.self.now.walk.manifest.now in
     let A = g.R.Recorded.answers c.args.self.now.walk.recorded.now in
     let B = g.R.Recorded.answers c.args.self.now.before.now in
     let was = looped_was m A B c.args.self.now.walk.globals.now c.args.left (prefix_of c.args.of) c.args.place c.args.scope.now c.args.call.now c.args.old.now c.if-left-eq0.false c.requires.was (c.if-not-is_running.ensures refl) c.in-Some.each c.in-Ok.items c.in-Some.is c.in-Ok.ensures.told in
-    (omega (arith, c.if-left-eq0.false), (within, (c.requires.ready, (All-from_list_all is_whole c.in-Ok.items c.in-Ok.ensures.whole, (omega (arith, c.if-left-eq0.false, c.requires.shallow), (c.requires.same, was))))))
+    let same = subst (λ (r : Sels). SameBut A B (c.args.place.sels ++ r)) c.in-Some-item_below.ensures.path c.requires.resumes.same in
+    (omega (arith, c.if-left-eq0.false), (within, (record { ready = c.requires.resumes.ready; same = same }, (All-from_list_all is_whole c.in-Ok.items c.in-Ok.ensures.whole, (omega (arith, c.if-left-eq0.false, c.requires.shallow), (c.in-Some-item_below.ensures.item, was))))))
 
 pub call-returns-in-Ok : goal.call-returns-in-Ok
 call-returns-in-Ok g t c =
@@ -61,7 +72,7 @@ called-entered-requires g t c κs within =
     let m = c.args.self.now.walk.manifest.now in
     let B = g.R.Recorded.answers c.args.self.now.before.now in
     let was = template_was m B c.args.self.now.walk.globals.now c.args.left (label_of c.args.after) c.args.place c.args.scope.now c.in-Ok.inner c.args.name.now c.args.given.now (option_copied c.args.after.exit) c.in-Some.template.now c.args.old.now c.in-Some.ensures.found c.in-Ok.ensures c.requires.was c.requires.runs in
-    (omega arith, (within, (c.requires.ready, (c.in-Some.ensures.walkable, (c.requires.shallow, (c.requires.same, (c.requires.runs, was)))))))
+    (omega arith, (within, (c.requires.resumes, (c.in-Some.ensures.walkable, (c.requires.shallow, (c.requires.runs, was))))))
 
 pub called-returns-in-Ok : goal.called-returns-in-Ok
 called-returns-in-Ok g t c =
@@ -90,8 +101,8 @@ template-returns-in_default-memoize g t c =
     let u = c.args.template.now in
     let gs = c.in-Some.groups.now in
     let changed = c.args.place.sels ++ c.args.rest.now in
-    let apart = apart_on_way A B changed c.requires.same c.args.place.sels c.in-Some.others.now (Group c.in-Some.j) (ap (λ (r : Sels). c.args.place.sels ++ r) c.in-Some.ensures.path) in
-    let made = steps_template_again m A B changed c.requires.same scopes c.args.left c.args.place c.args.scope.now u gs c.args.old.now c.requires.was c.requires.runs c.in-Some.ensures.steps c.in_default-memoize.is apart in
+    let apart = apart_on_way A B changed c.requires.resumes.same c.args.place.sels c.in-Some.others.now (Group c.in-Some.j) (ap (λ (r : Sels). c.args.place.sels ++ r) c.in-Some.ensures.path) in
+    let made = steps_template_again m A B changed c.requires.resumes.same scopes c.args.left c.args.place c.args.scope.now u gs c.args.old.now c.requires.was c.requires.runs c.in-Some.ensures.steps c.in_default-memoize.is apart in
     gives_as c.args.room.now c.steps.new.room c.steps.result (steps_made (calls m A scopes c.args.left) c.args.place c.args.scope.now u.outputs gs) (template_made A (calls m A scopes c.args.left) c.args.place c.args.scope.now u) (sym made) c.steps.ensures
 
 pub template-returns-in-Ok : goal.template-returns-in-Ok
@@ -103,8 +114,8 @@ template-returns-in-Ok g t c =
     let u = c.args.template.now in
     let gs = c.in-Some.groups.now in
     let changed = c.args.place.sels ++ c.args.rest.now in
-    let apart = apart_on_way A B changed c.requires.same c.args.place.sels c.in-Some.others.now (Group c.in-Some.j) (ap (λ (r : Sels). c.args.place.sels ++ r) c.in-Some.ensures.path) in
-    let made = steps_template_saved m A B changed c.requires.same scopes c.args.left c.args.place c.args.scope.now u gs c.in-Some-memoize.memoize c.in-Ok.key c.args.old.now c.requires.was c.requires.runs c.in-Some.ensures.steps c.in-Some-memoize.is c.in-Ok.ensures apart in
+    let apart = apart_on_way A B changed c.requires.resumes.same c.args.place.sels c.in-Some.others.now (Group c.in-Some.j) (ap (λ (r : Sels). c.args.place.sels ++ r) c.in-Some.ensures.path) in
+    let made = steps_template_saved m A B changed c.requires.resumes.same scopes c.args.left c.args.place c.args.scope.now u gs c.in-Some-memoize.memoize c.in-Ok.key c.args.old.now c.requires.was c.requires.runs c.in-Some.ensures.steps c.in-Some-memoize.is c.in-Ok.ensures apart in
     gives_as c.args.room.now c.missed.new.room c.missed.result (saving c.args.place c.in-Some-memoize.memoize c.in-Ok.key (steps_made (calls m A scopes c.args.left) c.args.place c.args.scope.now u.outputs gs)) (template_made A (calls m A scopes c.args.left) c.args.place c.args.scope.now u) (sym made) c.missed.ensures
 
 pub missed-returns-in_err-state : goal.missed-returns-in_err-state
@@ -128,27 +139,61 @@ missed-returns g t c =
       omega (arith, count_saving c.args.place c.args.memoize.now c.args.key b, given.1),
     )
 
--- ---- items
+-- ---- loops
 
-pub looped-items-requires : goal.looped-items-requires
-looped-items-requires g t c κs within =
+pub looped-returns-in_err-take_others : goal.looped-returns-in_err-take_others
+looped-returns-in_err-take_others g t c =
     let m = c.args.self.now.walk.manifest.now in
     let A = g.R.Recorded.answers c.args.self.now.walk.recorded.now in
     let B = g.R.Recorded.answers c.args.self.now.before.now in
     let scopes = c.args.self.now.walk.globals.now in
-    let some : c.args.items.now ≡ [] → ⊥ = λ e. cc (c.is_empty.ensures.1 e, c.if-is_empty.false) in
-    let was = c.in_ok-before.ensures ∙ items_were m A B scopes (calls m A scopes c.args.left) (calls m B scopes c.args.left) (prefix_of c.args.of) c.args.place c.args.scope.now c.args.call.now c.args.old.now c.args.items.now some c.requires.was in
-    (omega arith, (within, (c.requires.ready, (c.requires.whole, (c.in_ok-take.ensures.few, (c.requires.shallow, (c.requires.same, was)))))))
+    let whole = looped m A scopes (calls m A scopes c.args.left) (prefix_of c.args.of) c.args.place c.args.scope.now c.args.call.now (Ok c.args.items.now) in
+    by_err (λ r. Gives c.args.room.now c.take_others.new.room r whole) c.from_residual.result c.in_err-take_others.field-0.0 c.from_residual.ensures.1
+    (items_fail m A B scopes c.args.left (prefix_of c.args.of) c.args.place c.args.scope.now c.args.call.now c.args.items.now c.args.i c.args.rest.now c.requires.resumes.same c.args.old.now c.args.before.now c.requires.at c.requires.was c.args.room.now c.take_others.new.room c.in_err-take_others.field-0.0 c.in_err-take_others.ensures)
 
-pub item-returns-in_default : goal.item-returns-in_default
-item-returns-in_default g t c =
+pub looped-get-item-requires : goal.looped-get-item-requires
+looped-get-item-requires g t c =
     let m = c.args.self.now.walk.manifest.now in
     let A = g.R.Recorded.answers c.args.self.now.walk.recorded.now in
     let B = g.R.Recorded.answers c.args.self.now.before.now in
     let scopes = c.args.self.now.walk.globals.now in
-    gives_as c.args.room.now c.shared.new.room c.shared.result c.args.old.now (item_made m A scopes (calls m A scopes c.args.left) (prefix_of c.args.of) c.args.place.now c.args.scope.now c.args.call.now c.args.i c.args.item.now)
-    (c.requires.was ∙ item_beside m A B scopes c.args.left (prefix_of c.args.of) c.args.place.now c.args.scope.now c.args.call.now c.args.i c.args.item.now c.args.rest.now c.requires.same c.in_default.ensures.off)
-    c.shared.ensures
+    item_low m A B scopes c.args.left (prefix_of c.args.of) c.args.place c.args.scope.now c.args.call.now c.args.items.now c.args.i c.args.rest.now c.requires.resumes.same c.args.old.now c.args.before.now c.requires.at c.requires.was
+
+pub looped-item-requires : goal.looped-item-requires
+looped-item-requires g t c κs within =
+    let m = c.args.self.now.walk.manifest.now in
+    let A = g.R.Recorded.answers c.args.self.now.walk.recorded.now in
+    let B = g.R.Recorded.answers c.args.self.now.before.now in
+    let scopes = c.args.self.now.walk.globals.now in
+    let was = item_had m A B scopes c.args.left (prefix_of c.args.of) c.args.place c.args.scope.now c.args.call.now c.args.items.now c.args.i c.args.rest.now c.requires.resumes.same c.args.old.now c.args.before.now c.requires.at c.requires.was c.get-item.result.now c.get-item.ensures in
+    let whole = all_at (λ item. IsTrue (is_whole item)) c.args.items.now c.args.i c.get-item.result.now c.requires.whole c.get-item.ensures in
+    (omega arith, (within, (c.requires.resumes, (whole, (c.requires.shallow, was)))))
+
+pub looped-returns-in_err-new : goal.looped-returns-in_err-new
+looped-returns-in_err-new g t c =
+    let m = c.args.self.now.walk.manifest.now in
+    let A = g.R.Recorded.answers c.args.self.now.walk.recorded.now in
+    let B = g.R.Recorded.answers c.args.self.now.before.now in
+    let scopes = c.args.self.now.walk.globals.now in
+    let whole = looped m A scopes (calls m A scopes c.args.left) (prefix_of c.args.of) c.args.place c.args.scope.now c.args.call.now (Ok c.args.items.now) in
+    by_err (λ r. Gives c.args.room.now c.item.new.room r whole) c.from_residual-in_err-new.result c.in_err-new.field-0.0 c.from_residual-in_err-new.ensures.1
+    (item_fails m A B scopes c.args.left (prefix_of c.args.of) c.args.place c.args.scope.now c.args.call.now c.args.items.now c.args.i c.args.rest.now c.requires.resumes.same c.args.old.now c.args.before.now c.requires.at c.requires.was c.get-item.result.now c.get-item.ensures c.args.room.now c.take_others.new.room c.item.new.room c.in_err-new.field-0.0 c.in_ok-take_others.ensures c.in_err-new.ensures)
+
+pub looped-returns-then-runs_on : goal.looped-returns-then-runs_on
+looped-returns-then-runs_on g t c =
+    let m = c.args.self.now.walk.manifest.now in
+    let A = g.R.Recorded.answers c.args.self.now.walk.recorded.now in
+    let B = g.R.Recorded.answers c.args.self.now.before.now in
+    let scopes = c.args.self.now.walk.globals.now in
+    item_put m A B scopes c.args.left (prefix_of c.args.of) c.args.place c.args.scope.now c.args.call.now c.args.items.now c.args.i c.args.rest.now c.requires.resumes.same c.args.old.now c.args.before.now c.requires.at c.requires.was c.get-item.result.now c.get-item.ensures c.in_ok-state.state c.in_ok-new.new c.in_ok-state.ensures c.args.room.now c.take_others.new.room c.item.new.room c.in_ok-take_others.ensures c.in_ok-new.ensures (c.runs_on.ensures.old c.if-runs_on.true) (c.runs_on.ensures.new c.if-runs_on.true)
+
+pub looped-returns : goal.looped-returns
+looped-returns g t c =
+    let m = c.args.self.now.walk.manifest.now in
+    let A = g.R.Recorded.answers c.args.self.now.walk.recorded.now in
+    let B = g.R.Recorded.answers c.args.self.now.before.now in
+    let scopes = c.args.self.now.walk.globals.now in
+    items_listed m A B scopes c.args.left (prefix_of c.args.of) c.args.place c.args.scope.now c.args.call.now c.args.items.now c.args.i c.args.rest.now c.requires.resumes.same c.args.old.now c.args.before.now c.requires.at c.requires.was c.get-item.result.now c.get-item.ensures c.in_ok-state.state c.in_ok-new.new c.in_ok-state.ensures c.args.room.now c.take_others.new.room c.item.new.room c.in_ok-take_others.ensures c.in_ok-new.ensures c.in_ok-states.states c.in_ok-loop_of.field-0 c.in_ok-states.ensures c.in_ok-loop_of.ensures
 
 pub item-one-requires : goal.item-one-requires
 item-one-requires g t c κs within =
@@ -156,76 +201,17 @@ item-one-requires g t c κs within =
     let A = g.R.Recorded.answers c.args.self.now.walk.recorded.now in
     let B = g.R.Recorded.answers c.args.self.now.before.now in
     let scopes = c.args.self.now.walk.globals.now in
-    let same = same_below A B c.args.place.now.sels c.in_ok-at.at.sels (Item c.args.i) c.args.rest.now c.in-Some.others.now c.requires.same c.in-Some.ensures.on (ap (λ (p : Place). p.sels) c.in_ok-at.ensures) in
-    let was = c.state.ensures ∙ item_was m B scopes c.args.left (prefix_of c.args.of) c.args.place.now c.in_ok-at.at c.args.scope.now c.in_ok-inner.inner c.args.call.now c.args.i c.args.item.now c.args.old.now c.in_ok-inner.ensures c.in_ok-at.ensures c.requires.was in
+    let same = same_below A B c.args.place.now.sels c.in_ok-at.at.sels (Item c.args.i) (Item c.args.i ∷ c.args.rest.now) c.args.rest.now c.requires.resumes.same refl (ap (λ (p : Place). p.sels) c.in_ok-at.ensures) in
+    let was = item_was m B scopes c.args.left (prefix_of c.args.of) c.args.place.now c.in_ok-at.at c.args.scope.now c.in_ok-inner.inner c.args.call.now c.args.i c.args.item.now c.args.old.now c.in_ok-inner.ensures c.in_ok-at.ensures c.requires.was in
     let depth : c.in_ok-at.at.depth ≡ suc c.args.place.now.depth = ap (λ (p : Place). p.depth) c.in_ok-at.ensures in
-    (omega arith, (within, (c.requires.ready, (omega (arith, depth, c.requires.shallow), (same, was)))))
-
-pub item-returns-in_err-state : goal.item-returns-in_err-state
-item-returns-in_err-state g t c =
-    let m = c.args.self.now.walk.manifest.now in
-    let A = g.R.Recorded.answers c.args.self.now.walk.recorded.now in
-    let scopes = c.args.self.now.walk.globals.now in
-    let made = item_made m A scopes (calls m A scopes c.args.left) (prefix_of c.args.of) c.args.place.now c.args.scope.now c.args.call.now c.args.i c.args.item.now in
-    by_err (λ r. Gives c.args.room.now c.one.new.room r made) c.from_residual-in_err-state.result c.in_err-state.field-0.0 c.from_residual-in_err-state.ensures.1
-    (item_done m A scopes c.args.left (prefix_of c.args.of) c.args.place.now c.in_ok-at.at c.args.scope.now c.in_ok-inner.inner c.args.call.now c.args.i c.args.item.now c.args.room.now c.one.new.room (Err c.in_err-state.field-0.0) c.in_ok-inner.ensures c.in_ok-at.ensures c.in_err-state.ensures)
+    (omega arith, (within, (record { ready = c.requires.resumes.ready; same = same }, (omega (arith, depth, c.requires.shallow), was))))
 
 pub item-returns : goal.item-returns
 item-returns g t c =
     let m = c.args.self.now.walk.manifest.now in
     let A = g.R.Recorded.answers c.args.self.now.walk.recorded.now in
     let scopes = c.args.self.now.walk.globals.now in
-    let done = item_done m A scopes c.args.left (prefix_of c.args.of) c.args.place.now c.in_ok-at.at c.args.scope.now c.in_ok-inner.inner c.args.call.now c.args.i c.args.item.now c.args.room.now c.one.new.room (Ok c.in_ok-state.state) c.in_ok-inner.ensures c.in_ok-at.ensures c.in_ok-state.ensures in
-    (c.in_ok-new.ensures ∙ done.0, done.1)
-
-pub items-get-before-requires : goal.items-get-before-requires
-items-get-before-requires g t c =
-    let m = c.args.self.now.walk.manifest.now in
-    let B = g.R.Recorded.answers c.args.self.now.before.now in
-    let scopes = c.args.self.now.walk.globals.now in
-    let low : c.loop-item.i < length c.args.items.now = omega (arith, c.loop-item.invariant.counted, ap length c.as_slice-item-items.ensures, c.loop-item-test.true) in
-    numbered_low (item_made m B scopes (calls m B scopes c.args.left) (prefix_of c.args.of) c.args.place.now c.args.scope.now c.args.call.now) c.args.items.now c.loop-item.i c.args.old.now c.requires.was low
-
-pub items-item-requires : goal.items-item-requires
-items-item-requires g t c κs within =
-    let m = c.args.self.now.walk.manifest.now in
-    let B = g.R.Recorded.answers c.args.self.now.before.now in
-    let scopes = c.args.self.now.walk.globals.now in
-    let theirs = item_made m B scopes (calls m B scopes c.args.left) (prefix_of c.args.of) c.args.place.now c.args.scope.now c.args.call.now in
-    let parts = turn c.as_slice-item-items.result.now c.args.items.now c.loop-item.i c.loop-item.item-index c.item-item.result c.as_slice-item-items.ensures c.loop-item.invariant.counted c.loop-item-test.true c.item-item.is in
-    let was = numbered_here theirs c.args.items.now (drop (c.loop-item.i + 1) c.args.items.now) c.loop-item.i c.item-item.result c.args.old.now c.get-before.result.now c.requires.was parts c.get-before.ensures in
-    let whole : IsTrue (is_whole c.item-item.result) = search rules in
-    (omega arith, (within, (c.requires.ready, (whole, (c.requires.shallow, (c.requires.same, was))))))
-
-pub items-returns-in_err-state : goal.items-returns-in_err-state
-items-returns-in_err-state g t c =
-    let m = c.args.self.now.walk.manifest.now in
-    let A = g.R.Recorded.answers c.args.self.now.walk.recorded.now in
-    let scopes = c.args.self.now.walk.globals.now in
-    let made = item_made m A scopes (calls m A scopes c.args.left) (prefix_of c.args.of) c.args.place.now c.args.scope.now c.args.call.now in
-    let parts = turn c.as_slice-item-items.result.now c.args.items.now c.loop-item.i c.loop-item.item-index c.item-item.result c.as_slice-item-items.ensures c.loop-item.invariant.counted c.loop-item-test.true c.item-item.is in
-    by_err (λ r. GivesRow c.args.room.now c.item.new.room r (numbered made 0 c.args.items.now)) c.from_residual.result c.in_err-state.field-0.0 c.from_residual.ensures.1
-    (row_stops made c.loop-item.states c.loop-item.i c.item-item.result (drop (c.loop-item.i + 1) c.args.items.now) (drop c.loop-item.i c.args.items.now) (numbered made 0 c.args.items.now) c.args.room.now c.loop-item.room c.item.new.room c.in_err-state.field-0.0 parts c.loop-item.invariant.told c.loop-item.invariant.room c.in_err-state.ensures)
-
-pub items-overflow_add-i : goal.items-overflow_add-i
-items-overflow_add-i g t c =
-    let small = few_in_row c.loop-item.states c.loop-item.i c.loop-item.room c.args.room.now c.loop-item.invariant.long c.loop-item.invariant.room c.requires.few in
-    omega (arith, small)
-
-pub items-loop-item-preserved : goal.items-loop-item-preserved
-items-loop-item-preserved g t c =
-    let m = c.args.self.now.walk.manifest.now in
-    let A = g.R.Recorded.answers c.args.self.now.walk.recorded.now in
-    let scopes = c.args.self.now.walk.globals.now in
-    let made = item_made m A scopes (calls m A scopes c.args.left) (prefix_of c.args.of) c.args.place.now c.args.scope.now c.args.call.now in
-    let parts = turn c.as_slice-item-items.result.now c.args.items.now c.loop-item.i c.loop-item.item-index c.item-item.result c.as_slice-item-items.ensures c.loop-item.invariant.counted c.loop-item-test.true c.item-item.is in
-    let given = c.in_ok-state.ensures in
-    record {
-      counted = omega (arith, c.loop-item.invariant.counted);
-      told = ap (λ ms. ms ++ numbered made (c.loop-item.i + 1) (drop (c.loop-item.i + 1) c.args.items.now)) c.in_ok-push.ensures.ok ∙ row_next made c.loop-item.states c.loop-item.i c.item-item.result c.in_ok-state.state (drop (c.loop-item.i + 1) c.args.items.now) (drop c.loop-item.i c.args.items.now) (numbered made 0 c.args.items.now) parts given.0 c.loop-item.invariant.told;
-      long = ap (λ ms. length ms) c.in_ok-push.ensures.ok ∙ long_more c.loop-item.states c.in_ok-state.state c.loop-item.i c.loop-item.invariant.long;
-      room = ap (λ ms. c.item.new.room + count_row ms) c.in_ok-push.ensures.ok ∙ room_after c.loop-item.states c.in_ok-state.state (made c.loop-item.i c.item-item.result) c.args.room.now c.loop-item.room c.item.new.room c.loop-item.invariant.room given;
-    }
+    item_done m A scopes c.args.left (prefix_of c.args.of) c.args.place.now c.in_ok-at.at c.args.scope.now c.in_ok-inner.inner c.args.call.now c.args.i c.args.item.now c.args.room.now c.one.new.room c.one.result c.in_ok-inner.ensures c.in_ok-at.ensures c.one.ensures
 
 -- ---- groups
 
@@ -235,7 +221,7 @@ steps-groups-requires g t c κs within =
     let B = g.R.Recorded.answers c.args.self.now.before.now in
     let scopes = c.args.self.now.walk.globals.now in
     let was = c.in_ok-before.ensures ∙ groups_were (calls m B scopes c.args.left) c.args.place c.args.scope.now c.args.declared.now c.args.groups.now c.args.old.now c.requires.was in
-    (omega arith, (within, (c.requires.ready, (c.requires.named, (c.in_ok-take.ensures.few, (c.requires.shallow, (c.requires.same, was)))))))
+    (omega arith, (within, (c.requires.resumes, (c.requires.named, (c.in_ok-take.ensures.few, (c.requires.shallow, was))))))
 
 pub steps-returns : goal.steps-returns
 steps-returns g t c =
@@ -252,25 +238,8 @@ groups-group_at-requires g t c κs within =
     let B = g.R.Recorded.answers c.args.self.now.before.now in
     let scopes = c.args.self.now.walk.globals.now in
     let parts = turn c.as_slice-calls-items.result.now c.args.groups.now c.loop-calls.i c.loop-calls.calls-index c.calls-item.result c.as_slice-calls-items.ensures c.loop-calls.invariant.counted c.loop-calls-test.true c.calls-item.is in
-    let named : All IsNamed c.calls-item.result = search rules in (
-      omega arith,
-      (
-        within,
-        (
-          c.requires.ready,
-          (
-            named,
-            (
-              c.requires.shallow,
-              (
-                c.requires.same,
-                (λ le. group_stood m A B scopes c.args.left c.args.place.now c.loop-calls.row.scope c.loop-calls.i c.calls-item.result (drop c.loop-calls.i c.args.groups.now) (drop (c.loop-calls.i + 1) c.args.groups.now) c.args.old.now (c.loop-calls.invariant.as_before le) parts),
-              ),
-            ),
-          ),
-        ),
-      ),
-    )
+    let named : All IsNamed c.calls-item.result = search rules in
+    (omega arith, (within, (c.requires.resumes, (named, (c.requires.shallow, (λ le. group_stood m A B scopes c.args.left c.args.place.now c.loop-calls.row.scope c.loop-calls.i c.calls-item.result (drop c.loop-calls.i c.args.groups.now) (drop (c.loop-calls.i + 1) c.args.groups.now) c.args.old.now (c.loop-calls.invariant.as_before le) parts))))))
 
 pub groups-returns-in_err-group : goal.groups-returns-in_err-group
 groups-returns-in_err-group g t c =
@@ -279,8 +248,8 @@ groups-returns-in_err-group g t c =
     let scopes = c.args.self.now.walk.globals.now in
     let called = calls m A scopes c.args.left in
     let parts = turn c.as_slice-calls-items.result.now c.args.groups.now c.loop-calls.i c.loop-calls.calls-index c.calls-item.result c.as_slice-calls-items.ensures c.loop-calls.invariant.counted c.loop-calls-test.true c.calls-item.is in
-    by_err (λ r. GivesGroups c.args.room.now c.group_at.new.room r (groups_from called c.args.place.now 0 c.args.scope.now c.args.groups.now)) c.from_residual-in_err-group.result c.in_err-group.field-0.0 c.from_residual-in_err-group.ensures.1
-    (groups_fail called (alike m A scopes c.args.left) c.args.place.now c.args.scope.now c.args.groups.now c.loop-calls.row.states c.loop-calls.i c.loop-calls.row.scope c.calls-item.result (drop c.loop-calls.i c.args.groups.now) parts c.loop-calls.invariant.told (group_place c.args.place.now c.loop-calls.i) c.args.room.now c.loop-calls.room c.group_at.new.room c.in_err-group.field-0.0 refl c.loop-calls.invariant.room c.in_err-group.ensures)
+    by_err (λ r. KeepsGroups c.args.room.now c.group_at.new.room r (groups_from called c.args.place.now 0 c.args.scope.now c.args.groups.now)) c.from_residual-in_err-group.result c.in_err-group.field-0.0 c.from_residual-in_err-group.ensures.1
+    (groups_refused c.args.room.now c.group_at.new.room (groups_from called c.args.place.now 0 c.args.scope.now c.args.groups.now) c.in_err-group.field-0.0 (groups_fail called (alike m A scopes c.args.left) c.args.place.now c.args.scope.now c.args.groups.now c.loop-calls.row.states c.loop-calls.i c.loop-calls.row.scope c.calls-item.result (drop c.loop-calls.i c.args.groups.now) parts c.loop-calls.invariant.told (group_place c.args.place.now c.loop-calls.i) c.args.room.now c.loop-calls.room c.group_at.new.room c.in_err-group.field-0.0 refl c.loop-calls.invariant.room (group_refused c.loop-calls.room c.group_at.new.room (group_place c.args.place.now c.loop-calls.i) (members_at called c.args.place.now c.loop-calls.i c.loop-calls.row.scope c.calls-item.result) c.in_err-group.field-0.0 c.in_err-group.ensures)))
 
 pub groups-returns-then-not-goes_on : goal.groups-returns-then-not-goes_on
 groups-returns-then-not-goes_on g t c =
@@ -289,7 +258,17 @@ groups-returns-then-not-goes_on g t c =
     let scopes = c.args.self.now.walk.globals.now in
     let called = calls m A scopes c.args.left in
     let parts = turn c.as_slice-calls-items.result.now c.args.groups.now c.loop-calls.i c.loop-calls.calls-index c.calls-item.result c.as_slice-calls-items.ensures c.loop-calls.invariant.counted c.loop-calls-test.true c.calls-item.is in
-    groups_stop called (alike m A scopes c.args.left) c.args.place.now c.args.scope.now c.args.groups.now c.loop-calls.row.states c.loop-calls.i c.loop-calls.row.scope c.calls-item.result (drop c.loop-calls.i c.args.groups.now) parts c.loop-calls.invariant.told (group_place c.args.place.now c.loop-calls.i) refl c.in_ok-group.group c.add.new.self c.in_ok-add.ensures c.in_ok-group.ensures.0 c.has_succeeded-goes_on.result (sym c.has_succeeded-goes_on.ensures) c.if-not-goes_on.true c.args.room.now c.loop-calls.room c.group_at.new.room c.loop-calls.invariant.room c.in_ok-group.ensures.1
+    groups_end called (alike m A scopes c.args.left) c.args.place.now c.args.scope.now c.args.groups.now c.loop-calls.row.states c.loop-calls.i c.loop-calls.row.scope c.calls-item.result (drop c.loop-calls.i c.args.groups.now) parts c.loop-calls.invariant.told c.in_ok-group.group c.add.new.self c.has_succeeded-goes_on.result c.args.room.now c.loop-calls.room c.group_at.new.room c.in_ok-add.ensures c.in_ok-group.ensures.0 (sym c.has_succeeded-goes_on.ensures) c.if-not-goes_on.true c.loop-calls.invariant.room c.in_ok-group.ensures.1
+
+pub groups-returns : goal.groups-returns
+groups-returns g t c =
+    let m = c.args.self.now.walk.manifest.now in
+    let A = g.R.Recorded.answers c.args.self.now.walk.recorded.now in
+    let scopes = c.args.self.now.walk.globals.now in
+    let called = calls m A scopes c.args.left in
+    let past : length c.args.groups.now ≤ c.loop-calls.i = omega (arith, c.loop-calls.invariant.counted, ap length c.as_slice-calls-items.ensures, c.loop-calls-test.false) in
+    groups_keep c.args.room.now c.loop-calls.room (Ok c.loop-calls.row) (groups_from called c.args.place.now 0 c.args.scope.now c.args.groups.now)
+    (groups_done called (alike m A scopes c.args.left) c.args.place.now c.args.scope.now c.args.groups.now c.loop-calls.row c.loop-calls.i c.args.room.now c.loop-calls.room past c.loop-calls.invariant.told c.loop-calls.invariant.room)
 
 pub groups-overflow_add-i : goal.groups-overflow_add-i
 groups-overflow_add-i g t c =
@@ -305,15 +284,16 @@ groups-loop-calls-preserved g t c =
     let called = calls m A scopes c.args.left in
     let here = group_place c.args.place.now c.loop-calls.i in
     let parts = turn c.as_slice-calls-items.result.now c.args.groups.now c.loop-calls.i c.loop-calls.calls-index c.calls-item.result c.as_slice-calls-items.ensures c.loop-calls.invariant.counted c.loop-calls-test.true c.calls-item.is in
+    let seen = seen_over here (members_at called c.args.place.now c.loop-calls.i c.loop-calls.row.scope c.calls-item.result) c.in_ok-group.group c.has_succeeded-goes_on.result c.in_ok-group.ensures.0 (sym c.has_succeeded-goes_on.ensures) c.if-not-goes_on.false in
     record {
       counted = omega (arith, c.loop-calls.invariant.counted);
-      told = groups_next called (alike m A scopes c.args.left) c.args.place.now c.args.scope.now c.args.groups.now c.loop-calls.row.states c.loop-calls.i c.loop-calls.row.scope c.calls-item.result (drop c.loop-calls.i c.args.groups.now) parts c.loop-calls.invariant.told here refl c.in_ok-group.group c.add.new.self c.in_ok-add.ensures c.in_ok-group.ensures.0 c.has_succeeded-goes_on.result (sym c.has_succeeded-goes_on.ensures) c.if-not-goes_on.false;
+      told = groups_next called (alike m A scopes c.args.left) c.args.place.now c.args.scope.now c.args.groups.now c.loop-calls.row.states c.loop-calls.i c.loop-calls.row.scope c.calls-item.result (drop c.loop-calls.i c.args.groups.now) parts c.loop-calls.invariant.told here refl c.in_ok-group.group c.add.new.self c.in_ok-add.ensures seen c.has_succeeded-goes_on.result (sym c.has_succeeded-goes_on.ensures) c.if-not-goes_on.false;
       long = ap (λ r. length r.states) c.in_ok-add.ensures ∙ long_more c.loop-calls.row.states c.in_ok-group.group.state c.loop-calls.i c.loop-calls.invariant.long;
-      room = groups_room called (alike m A scopes c.args.left) c.args.place.now c.args.scope.now c.args.groups.now c.loop-calls.row.states c.loop-calls.i c.loop-calls.row.scope c.calls-item.result (drop c.loop-calls.i c.args.groups.now) parts c.loop-calls.invariant.told here refl c.in_ok-group.group c.add.new.self c.in_ok-add.ensures c.in_ok-group.ensures.0 c.has_succeeded-goes_on.result (sym c.has_succeeded-goes_on.ensures) c.args.room.now c.loop-calls.room c.group_at.new.room c.loop-calls.invariant.room c.in_ok-group.ensures.1;
+      room = groups_room called (alike m A scopes c.args.left) c.args.place.now c.args.scope.now c.args.groups.now c.loop-calls.row.states c.loop-calls.i c.loop-calls.row.scope c.calls-item.result (drop c.loop-calls.i c.args.groups.now) parts c.loop-calls.invariant.told here refl c.in_ok-group.group c.add.new.self c.in_ok-add.ensures seen c.has_succeeded-goes_on.result (sym c.has_succeeded-goes_on.ensures) c.args.room.now c.loop-calls.room c.group_at.new.room c.loop-calls.invariant.room c.in_ok-group.ensures.1;
       as_before = λ le.
           let low : c.loop-calls.i < c.args.j = omega (arith, le) in
           let held : c.loop-calls.i ≤ c.args.j = omega (arith, le) in
-          groups_stood m A B scopes c.args.left c.args.place.now c.loop-calls.row.scope c.loop-calls.i c.args.j c.calls-item.result (drop c.loop-calls.i c.args.groups.now) (drop (c.loop-calls.i + 1) c.args.groups.now) c.args.rest.now c.args.old.now c.in_ok-group.group c.add.new.self c.has_succeeded-goes_on.result c.requires.same low (c.loop-calls.invariant.as_before held) parts c.in_ok-group.ensures.0 (ap (λ r. r.scope) c.in_ok-add.ensures) (sym c.has_succeeded-goes_on.ensures) c.if-not-goes_on.false;
+          groups_stood m A B scopes c.args.left c.args.place.now c.loop-calls.row.scope c.loop-calls.i c.args.j c.calls-item.result (drop c.loop-calls.i c.args.groups.now) (drop (c.loop-calls.i + 1) c.args.groups.now) c.args.rest.now c.args.old.now c.in_ok-group.group c.add.new.self c.has_succeeded-goes_on.result c.requires.resumes.same low (c.loop-calls.invariant.as_before held) parts seen (ap (λ r. r.scope) c.in_ok-add.ensures) (sym c.has_succeeded-goes_on.ensures) c.if-not-goes_on.false;
     }
 
 pub group_at-returns-then-i-j : goal.group_at-returns-then-i-j
@@ -327,15 +307,33 @@ group_at-returns-then-i-j g t c =
     let theirs = members_at (calls m B scopes c.args.left) c.args.place.now c.args.i c.args.scope.now c.args.calls.now in
     let held : c.args.i ≤ c.args.j = omega (arith, c.if-i-j.true) in
     let was : c.get.result.now ≡ group_made here theirs = some_same c.get.result.now (group_made here theirs) (slice_get c.args.old.now c.args.i) c.get.ensures (c.requires.was held) in
-    let stays : theirs ≡ mine = group_beside m A B scopes c.args.left c.args.place.now c.args.i c.args.j c.args.scope.now c.args.calls.now c.args.rest.now c.requires.same c.if-i-j.true in
-    c.shared_group.ensures here mine (members_calls (calls m A scopes c.args.left) here c.args.scope.now 0 c.args.calls.now) (was ∙ ap (λ (ms : List Member). group_made here ms) stays)
+    let stays : theirs ≡ mine = group_beside m A B scopes c.args.left c.args.place.now c.args.i c.args.j c.args.scope.now c.args.calls.now c.args.rest.now c.requires.resumes.same c.if-i-j.true in
+    group_keeps c.args.room.now c.shared_group.new.room c.shared_group.result here mine
+    (c.shared_group.ensures here mine (members_calls (calls m A scopes c.args.left) here c.args.scope.now 0 c.args.calls.now) (was ∙ ap (λ (ms : List Member). group_made here ms) stays))
+
+pub group_at-returns-then-j-i : goal.group_at-returns-then-j-i
+group_at-returns-then-j-i g t c =
+    let m = c.args.self.now.walk.manifest.now in
+    let A = g.R.Recorded.answers c.args.self.now.walk.recorded.now in
+    let called = calls m A c.args.self.now.walk.globals.now c.args.left in
+    let Kept = λ (p : Place). KeepsGroup c.args.room.now c.group.new.room c.group.result p (members called p c.args.scope.now c.args.calls.now) in
+    subst Kept c.in_ok-at.ensures
+    (group_keeps c.args.room.now c.group.new.room c.group.result c.in_ok-at.at (members called c.in_ok-at.at c.args.scope.now c.args.calls.now) c.group.ensures)
+
+pub group_at-returns : goal.group_at-returns
+group_at-returns g t c =
+    let m = c.args.self.now.walk.manifest.now in
+    let A = g.R.Recorded.answers c.args.self.now.walk.recorded.now in
+    let called = calls m A c.args.self.now.walk.globals.now c.args.left in
+    let Kept = λ (p : Place). KeepsGroup c.args.room.now c.group-2.new.room c.group-2.result p (members called p c.args.scope.now c.args.calls.now) in
+    subst Kept c.in_ok-at.ensures c.group-2.ensures
 
 pub group_at-get-requires-2 : goal.group_at-get-requires-2
 group_at-get-requires-2 g t c =
     let m = c.args.self.now.walk.manifest.now in
     let B = g.R.Recorded.answers c.args.self.now.before.now in
     let theirs = members_at (calls m B c.args.self.now.walk.globals.now c.args.left) c.args.place.now c.args.i c.args.scope.now c.args.calls.now in
-    is_there c.args.old.now c.args.i (group_made (group_place c.args.place.now c.args.i) theirs) (c.requires.was c.if-j-i.false)
+    is_low c.args.old.now c.args.i (group_made (group_place c.args.place.now c.args.i) theirs) (c.requires.was c.if-j-i.false)
 
 pub group_at-group-requires-2 : goal.group_at-group-requires-2
 group_at-group-requires-2 g t c κs within =
@@ -347,108 +345,99 @@ group_at-group-requires-2 g t c κs within =
     let theirs = members_at other c.args.place.now c.args.i c.args.scope.now c.args.calls.now in
     let at = c.in_ok-at.ensures in
     let it : c.args.j ≡ c.args.i = omega (arith, c.if-i-j.false, c.if-j-i.false) in
-    let same = same_below A B c.args.place.now.sels c.in_ok-at.at.sels (Group c.args.i) (Group c.args.j ∷ c.args.rest.now) c.args.rest.now c.requires.same (ap (λ (n : ℕ). Group n ∷ c.args.rest.now) it) (ap (λ (p : Place). p.sels) at) in
+    let same = same_below A B c.args.place.now.sels c.in_ok-at.at.sels (Group c.args.i) (Group c.args.j ∷ c.args.rest.now) c.args.rest.now c.requires.resumes.same (ap (λ (n : ℕ). Group n ∷ c.args.rest.now) it) (ap (λ (p : Place). p.sels) at) in
     let stood : c.get-2.result.now ≡ group_made here theirs = some_same c.get-2.result.now (group_made here theirs) (slice_get c.args.old.now c.args.i) c.get-2.ensures (c.requires.was c.if-j-i.false) in
     let was = c.state-before.ensures ∙ stood ∙ ap (λ (p : Place). group_made p (members other p c.args.scope.now c.args.calls.now)) (sym at) in
     let depth : c.in_ok-at.at.depth ≡ suc c.args.place.now.depth = ap (λ (p : Place). p.depth) at in
-    (omega arith, (within, (c.requires.ready, (c.requires.named, (omega (arith, depth, c.requires.shallow), (same, was))))))
+    (omega arith, (within, (record { ready = c.requires.resumes.ready; same = same }, (c.requires.named, (omega (arith, depth, c.requires.shallow), was)))))
 
-pub group-members-requires : goal.group-members-requires
-group-members-requires g t c κs within =
+pub group-returns-in_default : goal.group-returns-in_default
+group-returns-in_default g t c =
     let m = c.args.self.now.walk.manifest.now in
+    let A = g.R.Recorded.answers c.args.self.now.walk.recorded.now in
+    let scopes = c.args.self.now.walk.globals.now in
+    let ms = members (calls m A scopes c.args.left) c.args.place c.args.scope.now c.args.calls.now in
+    group_keeps c.args.room.now c.group.new.room c.group.result c.args.place ms c.group.ensures
+
+pub group-returns-in_err-take_others : goal.group-returns-in_err-take_others
+group-returns-in_err-take_others g t c =
+    let m = c.args.self.now.walk.manifest.now in
+    let A = g.R.Recorded.answers c.args.self.now.walk.recorded.now in
     let B = g.R.Recorded.answers c.args.self.now.before.now in
     let scopes = c.args.self.now.walk.globals.now in
-    let was = c.in_ok-before.ensures ∙ group_were c.args.place (members (calls m B scopes c.args.left) c.args.place c.args.scope.now c.args.calls.now) c.args.old.now c.requires.was in
-    (omega arith, (within, (c.requires.ready, (c.requires.named, (c.in_ok-take.ensures.few, (omega (arith, c.requires.shallow), (c.requires.same, was)))))))
+    let same = subst (λ (r : Sels). SameBut A B (c.args.place.sels ++ r)) c.in-Some.ensures.path c.requires.resumes.same in
+    let ms = members (calls m A scopes c.args.left) c.args.place c.args.scope.now c.args.calls.now in
+    by_err (λ r. KeepsGroup c.args.room.now c.take_others.new.room r c.args.place ms) c.from_residual.result c.in_err-take_others.field-0.0 c.from_residual.ensures.1
+    (members_fail m A B scopes c.args.left c.args.place c.args.scope.now c.args.calls.now c.in-Some.j c.in-Some.others.now same c.args.old.now c.in-Some.before.now c.in-Some.ensures.member c.requires.was c.args.room.now c.take_others.new.room c.in_err-take_others.field-0.0 c.in_err-take_others.ensures)
+
+pub group-get-call-requires : goal.group-get-call-requires
+group-get-call-requires g t c =
+    let m = c.args.self.now.walk.manifest.now in
+    let A = g.R.Recorded.answers c.args.self.now.walk.recorded.now in
+    let B = g.R.Recorded.answers c.args.self.now.before.now in
+    let scopes = c.args.self.now.walk.globals.now in
+    let same = subst (λ (r : Sels). SameBut A B (c.args.place.sels ++ r)) c.in-Some.ensures.path c.requires.resumes.same in
+    member_low m A B scopes c.args.left c.args.place c.args.scope.now c.args.calls.now c.in-Some.j c.in-Some.others.now same c.args.old.now c.in-Some.before.now c.in-Some.ensures.member c.requires.was
+
+pub group-member-requires : goal.group-member-requires
+group-member-requires g t c κs within =
+    let m = c.args.self.now.walk.manifest.now in
+    let A = g.R.Recorded.answers c.args.self.now.walk.recorded.now in
+    let B = g.R.Recorded.answers c.args.self.now.before.now in
+    let scopes = c.args.self.now.walk.globals.now in
+    let same = subst (λ (r : Sels). SameBut A B (c.args.place.sels ++ r)) c.in-Some.ensures.path c.requires.resumes.same in
+    let was = member_had m A B scopes c.args.left c.args.place c.args.scope.now c.args.calls.now c.in-Some.j c.in-Some.others.now same c.args.old.now c.in-Some.before.now c.in-Some.ensures.member c.requires.was c.get-call.result.now c.get-call.ensures in
+    let named = all_at IsNamed c.args.calls.now c.in-Some.j c.get-call.result.now c.requires.named c.get-call.ensures in
+    (omega arith, (within, (record { ready = c.requires.resumes.ready; same = same }, (named, (omega (arith, c.requires.shallow), was)))))
+
+pub group-returns-in_err-new : goal.group-returns-in_err-new
+group-returns-in_err-new g t c =
+    let m = c.args.self.now.walk.manifest.now in
+    let A = g.R.Recorded.answers c.args.self.now.walk.recorded.now in
+    let B = g.R.Recorded.answers c.args.self.now.before.now in
+    let scopes = c.args.self.now.walk.globals.now in
+    let same = subst (λ (r : Sels). SameBut A B (c.args.place.sels ++ r)) c.in-Some.ensures.path c.requires.resumes.same in
+    let ms = members (calls m A scopes c.args.left) c.args.place c.args.scope.now c.args.calls.now in
+    by_err (λ r. KeepsGroup c.args.room.now c.member.new.room r c.args.place ms) c.from_residual-in_err-new.result c.in_err-new.field-0.0 c.from_residual-in_err-new.ensures.1
+    (member_fails m A B scopes c.args.left c.args.place c.args.scope.now c.args.calls.now c.in-Some.j c.in-Some.others.now same c.args.old.now c.in-Some.before.now c.in-Some.ensures.member c.requires.was c.get-call.result.now c.get-call.ensures c.args.room.now c.take_others.new.room c.member.new.room c.in_err-new.field-0.0 c.in_ok-take_others.ensures c.in_err-new.ensures)
+
+pub group-returns-then-runs_on : goal.group-returns-then-runs_on
+group-returns-then-runs_on g t c =
+    let m = c.args.self.now.walk.manifest.now in
+    let A = g.R.Recorded.answers c.args.self.now.walk.recorded.now in
+    let B = g.R.Recorded.answers c.args.self.now.before.now in
+    let scopes = c.args.self.now.walk.globals.now in
+    let same = subst (λ (r : Sels). SameBut A B (c.args.place.sels ++ r)) c.in-Some.ensures.path c.requires.resumes.same in
+    member_put m A B scopes c.args.left c.args.place c.args.scope.now c.args.calls.now c.in-Some.j c.in-Some.others.now same c.args.old.now c.in-Some.before.now c.in-Some.ensures.member c.requires.was c.get-call.result.now c.get-call.ensures c.in_ok-state.state c.in_ok-new.new c.in_ok-state.ensures c.args.room.now c.take_others.new.room c.member.new.room c.in_ok-take_others.ensures c.in_ok-new.ensures c.in_ok-untagged.field-0 c.in_ok-untagged.ensures (c.runs_on.ensures.old c.if-runs_on.true) (c.runs_on.ensures.new c.if-runs_on.true)
 
 pub group-returns : goal.group-returns
 group-returns g t c =
     let m = c.args.self.now.walk.manifest.now in
     let A = g.R.Recorded.answers c.args.self.now.walk.recorded.now in
+    let B = g.R.Recorded.answers c.args.self.now.before.now in
     let scopes = c.args.self.now.walk.globals.now in
-    let called = calls m A scopes c.args.left in
-    let ms = members called c.args.place c.args.scope.now c.args.calls.now in
-    let states = c.in_ok-states.ensures in
-    let seen = c.in_ok-group_over.ensures ms (members_calls called c.args.place c.args.scope.now 0 c.args.calls.now) (sym states.0) in
-    group_done c.args.room.now c.take.new.self c.members.new.room c.args.place ms c.in_ok-states.states c.in_ok-group_over.field-0 c.in_ok-take.ensures.takes states seen
+    let same = subst (λ (r : Sels). SameBut A B (c.args.place.sels ++ r)) c.in-Some.ensures.path c.requires.resumes.same in
+    members_listed m A B scopes c.args.left c.args.place c.args.scope.now c.args.calls.now c.in-Some.j c.in-Some.others.now same c.args.old.now c.in-Some.before.now c.in-Some.ensures.member c.requires.was c.get-call.result.now c.get-call.ensures c.in_ok-state.state c.in_ok-new.new c.in_ok-state.ensures c.args.room.now c.take_others.new.room c.member.new.room c.in_ok-take_others.ensures c.in_ok-new.ensures c.in_ok-states.states c.in_ok-group_over.field-0 c.in_ok-states.ensures c.in_ok-group_over.ensures
 
--- ---- members
-
-pub member-returns-in_default : goal.member-returns-in_default
-member-returns-in_default g t c =
+pub member-call-requires : goal.member-call-requires
+member-call-requires g t c κs within =
     let m = c.args.self.now.walk.manifest.now in
     let A = g.R.Recorded.answers c.args.self.now.walk.recorded.now in
     let B = g.R.Recorded.answers c.args.self.now.before.now in
     let scopes = c.args.self.now.walk.globals.now in
-    gives_as c.args.room.now c.shared.new.room c.shared.result c.args.old.now (calls m A scopes c.args.left (codes "steps.") (member_place c.args.group.now c.args.j c.args.call.now) c.args.scope.now c.args.call.now)
-    (c.requires.was ∙ member_beside m A B scopes c.args.left (codes "steps.") c.args.group.now c.args.scope.now c.args.call.now c.args.j c.args.rest.now c.requires.same c.in_default.ensures.off)
-    c.shared.ensures
+    let here = c.in_ok-at.ensures in
+    let same = same_below A B c.args.group.now.sels c.in_ok-at.at.sels (Step c.args.j) (Step c.args.j ∷ c.args.rest.now) c.args.rest.now c.requires.resumes.same refl (ap (λ (p : Place). p.sels) here) in
+    let was = c.requires.was ∙ ap (λ (p : Place). calls m B scopes c.args.left (codes "steps.") p c.args.scope.now c.args.call.now) (sym here) in
+    let depth : c.in_ok-at.at.depth ≡ suc c.args.group.now.depth = ap (λ (p : Place). p.depth) here in
+    (omega arith, (within, (record { ready = c.requires.resumes.ready; same = same }, (omega (arith, depth, c.requires.shallow), was))))
 
-pub members-get-before-requires : goal.members-get-before-requires
-members-get-before-requires g t c =
-    let m = c.args.self.now.walk.manifest.now in
-    let B = g.R.Recorded.answers c.args.self.now.before.now in
-    let scopes = c.args.self.now.walk.globals.now in
-    let called = calls m B scopes c.args.left in
-    let low : c.loop-call.j < length c.args.calls.now = omega (arith, c.loop-call.invariant.counted, ap length c.as_slice-call-items.ensures, c.loop-call-test.true) in
-    numbered_low (member_at called c.args.group.now c.args.scope.now) c.args.calls.now c.loop-call.j c.args.old.now (c.requires.was ∙ members_row called c.args.group.now c.args.scope.now 0 c.args.calls.now) low
-
-pub members-member-requires : goal.members-member-requires
-members-member-requires g t c κs within =
-    let m = c.args.self.now.walk.manifest.now in
-    let B = g.R.Recorded.answers c.args.self.now.before.now in
-    let scopes = c.args.self.now.walk.globals.now in
-    let called = calls m B scopes c.args.left in
-    let parts = turn c.as_slice-call-items.result.now c.args.calls.now c.loop-call.j c.loop-call.call-index c.call-item.result c.as_slice-call-items.ensures c.loop-call.invariant.counted c.loop-call-test.true c.call-item.is in
-    let was = numbered_here (member_at called c.args.group.now c.args.scope.now) c.args.calls.now (drop (c.loop-call.j + 1) c.args.calls.now) c.loop-call.j c.call-item.result c.args.old.now c.get-before.result.now (c.requires.was ∙ members_row called c.args.group.now c.args.scope.now 0 c.args.calls.now) parts c.get-before.ensures in
-    let named : IsNamed c.call-item.result = search rules in
-    (omega arith, (within, (c.requires.ready, (named, (c.requires.shallow, (c.requires.same, was))))))
-
-pub members-returns-in_err-state : goal.members-returns-in_err-state
-members-returns-in_err-state g t c =
+pub member-returns : goal.member-returns
+member-returns g t c =
     let m = c.args.self.now.walk.manifest.now in
     let A = g.R.Recorded.answers c.args.self.now.walk.recorded.now in
     let scopes = c.args.self.now.walk.globals.now in
-    let called = calls m A scopes c.args.left in
-    let made = member_at called c.args.group.now c.args.scope.now in
-    let parts = turn c.as_slice-call-items.result.now c.args.calls.now c.loop-call.j c.loop-call.call-index c.call-item.result c.as_slice-call-items.ensures c.loop-call.invariant.counted c.loop-call-test.true c.call-item.is in
-    let row = members_row called c.args.group.now c.args.scope.now 0 c.args.calls.now in
-    by_err (λ r. GivesRow c.args.room.now c.member.new.room r (makings (members called c.args.group.now c.args.scope.now c.args.calls.now))) c.from_residual.result c.in_err-state.field-0.0 c.from_residual.ensures.1
-    (subst (λ ms. GivesRow c.args.room.now c.member.new.room (Err c.in_err-state.field-0.0) ms) (sym row)
-    (row_stops made c.loop-call.states c.loop-call.j c.call-item.result (drop (c.loop-call.j + 1) c.args.calls.now) (drop c.loop-call.j c.args.calls.now) (numbered made 0 c.args.calls.now) c.args.room.now c.loop-call.room c.member.new.room c.in_err-state.field-0.0 parts c.loop-call.invariant.told c.loop-call.invariant.room c.in_err-state.ensures))
-
-pub members-overflow_add-j : goal.members-overflow_add-j
-members-overflow_add-j g t c =
-    let small = few_in_row c.loop-call.states c.loop-call.j c.loop-call.room c.args.room.now c.loop-call.invariant.long c.loop-call.invariant.room c.requires.few in
-    omega (arith, small)
-
-pub members-loop-call-preserved : goal.members-loop-call-preserved
-members-loop-call-preserved g t c =
-    let m = c.args.self.now.walk.manifest.now in
-    let A = g.R.Recorded.answers c.args.self.now.walk.recorded.now in
-    let scopes = c.args.self.now.walk.globals.now in
-    let called = calls m A scopes c.args.left in
-    let made = member_at called c.args.group.now c.args.scope.now in
-    let parts = turn c.as_slice-call-items.result.now c.args.calls.now c.loop-call.j c.loop-call.call-index c.call-item.result c.as_slice-call-items.ensures c.loop-call.invariant.counted c.loop-call-test.true c.call-item.is in
-    let given = c.in_ok-state.ensures in
-    record {
-      counted = omega (arith, c.loop-call.invariant.counted);
-      told = ap (λ ms. ms ++ numbered made (c.loop-call.j + 1) (drop (c.loop-call.j + 1) c.args.calls.now)) c.in_ok-push.ensures.ok ∙ row_next made c.loop-call.states c.loop-call.j c.call-item.result c.in_ok-state.state (drop (c.loop-call.j + 1) c.args.calls.now) (drop c.loop-call.j c.args.calls.now) (numbered made 0 c.args.calls.now) parts given.0 c.loop-call.invariant.told;
-      long = ap (λ ms. length ms) c.in_ok-push.ensures.ok ∙ long_more c.loop-call.states c.in_ok-state.state c.loop-call.j c.loop-call.invariant.long;
-      room = ap (λ ms. c.member.new.room + count_row ms) c.in_ok-push.ensures.ok ∙ room_after c.loop-call.states c.in_ok-state.state (made c.loop-call.j c.call-item.result) c.args.room.now c.loop-call.room c.member.new.room c.loop-call.invariant.room given;
-    }
-
-pub members-returns : goal.members-returns
-members-returns g t c =
-    let m = c.args.self.now.walk.manifest.now in
-    let A = g.R.Recorded.answers c.args.self.now.walk.recorded.now in
-    let scopes = c.args.self.now.walk.globals.now in
-    let called = calls m A scopes c.args.left in
-    let made = member_at called c.args.group.now c.args.scope.now in
-    let past : length c.args.calls.now ≤ c.loop-call.j = omega (arith, c.loop-call.invariant.counted, ap length c.as_slice-call-items.ensures, c.loop-call-test.false) in
-    let row = members_row called c.args.group.now c.args.scope.now 0 c.args.calls.now in
-    subst (λ ms. GivesRow c.args.room.now c.loop-call.room (Ok c.loop-call.states) ms) (sym row)
-    (row_done made c.loop-call.states c.loop-call.j c.args.calls.now c.args.room.now c.loop-call.room past c.loop-call.invariant.told c.loop-call.invariant.room)
+    let made = λ (p : Place). calls m A scopes c.args.left (codes "steps.") p c.args.scope.now c.args.call.now in
+    gives_as c.args.room.now c.call.new.room c.call.result (made c.in_ok-at.at) (made (member_place c.args.group.now c.args.j c.args.call.now)) (ap made c.in_ok-at.ensures) c.call.ensures
 
 -- ---- DAGs
 
@@ -460,9 +449,9 @@ other-dag-requires g t c κs within =
     let scopes = c.args.self.now.walk.globals.now in
     let called = calls m A scopes c.args.left in
     let u = c.args.template.now in
-    let same = subst (λ (r : Sels). SameBut A B (c.args.place.sels ++ r)) c.in-Some.ensures.path c.requires.same in
-    let was = dag_were m A B (c.args.place.sels ++ c.args.rest.now) c.requires.same scopes c.args.left c.args.place c.args.scope.now u c.in-Some.dag.now c.args.old.now c.requires.was c.requires.runs c.in-Some.ensures.dag in
-    (omega arith, (within, (c.requires.ready, (walkable_dag u c.in-Some.dag.now c.requires.walkable c.in-Some.ensures.dag, (c.requires.shallow, (same, was))))))
+    let same = subst (λ (r : Sels). SameBut A B (c.args.place.sels ++ r)) c.in-Some.ensures.path c.requires.resumes.same in
+    let was = dag_were m A B (c.args.place.sels ++ c.args.rest.now) c.requires.resumes.same scopes c.args.left c.args.place c.args.scope.now u c.in-Some.dag.now c.args.old.now c.requires.was c.requires.runs c.in-Some.ensures.dag in
+    (omega arith, (within, (record { ready = c.requires.resumes.ready; same = same }, (walkable_dag u c.in-Some.dag.now c.requires.walkable c.in-Some.ensures.dag, (c.requires.shallow, was)))))
 
 pub other-missed_dag-requires : goal.other-missed_dag-requires
 other-missed_dag-requires g t c κs within =
@@ -472,9 +461,9 @@ other-missed_dag-requires g t c κs within =
     let scopes = c.args.self.now.walk.globals.now in
     let called = calls m A scopes c.args.left in
     let u = c.args.template.now in
-    let same = subst (λ (r : Sels). SameBut A B (c.args.place.sels ++ r)) c.in-Some.ensures.path c.requires.same in
-    let was = dag_were m A B (c.args.place.sels ++ c.args.rest.now) c.requires.same scopes c.args.left c.args.place c.args.scope.now u c.in-Some.dag.now c.args.old.now c.requires.was c.requires.runs c.in-Some.ensures.dag in
-    (omega arith, (within, (c.requires.ready, (walkable_dag u c.in-Some.dag.now c.requires.walkable c.in-Some.ensures.dag, (c.requires.shallow, (same, was))))))
+    let same = subst (λ (r : Sels). SameBut A B (c.args.place.sels ++ r)) c.in-Some.ensures.path c.requires.resumes.same in
+    let was = dag_were m A B (c.args.place.sels ++ c.args.rest.now) c.requires.resumes.same scopes c.args.left c.args.place c.args.scope.now u c.in-Some.dag.now c.args.old.now c.requires.was c.requires.runs c.in-Some.ensures.dag in
+    (omega arith, (within, (record { ready = c.requires.resumes.ready; same = same }, (walkable_dag u c.in-Some.dag.now c.requires.walkable c.in-Some.ensures.dag, (c.requires.shallow, was)))))
 
 pub other-returns-in_default-memoize : goal.other-returns-in_default-memoize
 other-returns-in_default-memoize g t c =
@@ -485,8 +474,8 @@ other-returns-in_default-memoize g t c =
     let called = calls m A scopes c.args.left in
     let u = c.args.template.now in
     let changed = c.args.place.sels ++ c.args.rest.now in
-    let apart = apart_on_way A B changed c.requires.same c.args.place.sels c.in-Some.others.now (task_sel c.in-Some.j) (ap (λ (r : Sels). c.args.place.sels ++ r) c.in-Some.ensures.path) in
-    let made = dag_template_again m A B changed c.requires.same scopes c.args.left c.args.place c.args.scope.now u c.in-Some.dag.now c.args.old.now c.requires.was c.requires.runs c.in-Some.ensures.dag c.in_default-memoize.is apart in
+    let apart = apart_on_way A B changed c.requires.resumes.same c.args.place.sels c.in-Some.others.now (task_sel c.in-Some.j) (ap (λ (r : Sels). c.args.place.sels ++ r) c.in-Some.ensures.path) in
+    let made = dag_template_again m A B changed c.requires.resumes.same scopes c.args.left c.args.place c.args.scope.now u c.in-Some.dag.now c.args.old.now c.requires.was c.requires.runs c.in-Some.ensures.dag c.in_default-memoize.is apart in
     gives_as c.args.room.now c.dag.new.room c.dag.result (dag_made A called c.args.place c.args.scope.now u.outputs c.in-Some.dag.now) (template_made A called c.args.place c.args.scope.now u) (sym made) c.dag.ensures
 
 pub other-returns-in-Ok : goal.other-returns-in-Ok
@@ -498,8 +487,8 @@ other-returns-in-Ok g t c =
     let called = calls m A scopes c.args.left in
     let u = c.args.template.now in
     let changed = c.args.place.sels ++ c.args.rest.now in
-    let apart = apart_on_way A B changed c.requires.same c.args.place.sels c.in-Some.others.now (task_sel c.in-Some.j) (ap (λ (r : Sels). c.args.place.sels ++ r) c.in-Some.ensures.path) in
-    let made = dag_template_saved m A B changed c.requires.same scopes c.args.left c.args.place c.args.scope.now u c.in-Some.dag.now c.in-Some-memoize.memoize c.in-Ok.key c.args.old.now c.requires.was c.requires.runs c.in-Some.ensures.dag c.in-Some-memoize.is c.in-Ok.ensures apart in
+    let apart = apart_on_way A B changed c.requires.resumes.same c.args.place.sels c.in-Some.others.now (task_sel c.in-Some.j) (ap (λ (r : Sels). c.args.place.sels ++ r) c.in-Some.ensures.path) in
+    let made = dag_template_saved m A B changed c.requires.resumes.same scopes c.args.left c.args.place c.args.scope.now u c.in-Some.dag.now c.in-Some-memoize.memoize c.in-Ok.key c.args.old.now c.requires.was c.requires.runs c.in-Some.ensures.dag c.in-Some-memoize.is c.in-Ok.ensures apart in
     gives_as c.args.room.now c.missed_dag.new.room c.missed_dag.result (saving c.args.place c.in-Some-memoize.memoize c.in-Ok.key (dag_made A called c.args.place c.args.scope.now u.outputs c.in-Some.dag.now)) (template_made A called c.args.place c.args.scope.now u) (sym made) c.missed_dag.ensures
 
 pub missed_dag-returns-in_err-state : goal.missed_dag-returns-in_err-state
@@ -531,7 +520,7 @@ dag-tasks-requires g t c κs within =
     let scopes = c.args.self.now.walk.globals.now in
     let called = calls m A scopes c.args.left in
     let were = c.in_ok-were.ensures m B scopes c.args.left c.args.place c.args.scope.now c.args.declared.now (c.in_ok-before.ensures ∙ ap (λ (b : Made). row_in b.parts) c.requires.was) c.len.ensures in
-    (omega arith, (within, (c.requires.ready, (c.requires.walkable, (c.in_ok-plan.ensures, (c.requires.shallow, (c.requires.same, were)))))))
+    (omega arith, (within, (c.requires.resumes, (c.requires.walkable, (c.in_ok-plan.ensures, (c.requires.shallow, were))))))
 
 pub dag-returns-in_err-board : goal.dag-returns-in_err-board
 dag-returns-in_err-board g t c =
@@ -587,7 +576,7 @@ task-freed-requires g t c κs within =
     let tells = subst (λ v. Tells c.args.dag.now c.args.plan.now c.args.board.now i v) c.in-Holds.is c.in_ok-verdict.ensures in
     let free = stands_free A called (alike m A scopes c.args.left) c.args.place.now c.args.scope.now c.args.dag.now c.args.plan.now c.args.k i c.get-task.result.now turn c.args.board.now c.requires.board tells in
     let place = is_low c.args.dag.now.tasks i c.get-task.result.now c.get-task.ensures in
-    (omega arith, (within, (c.requires.ready, (c.requires.walkable, (c.requires.plan, (turn, (c.requires.board, (free, (place, (omega (arith, c.requires.shallow), (c.requires.same, c.requires.were)))))))))))
+    (omega arith, (within, (c.requires.resumes, (c.requires.walkable, (c.requires.plan, (turn, (c.requires.board, (free, (place, (omega (arith, c.requires.shallow), c.requires.were))))))))))
 
 pub task-returns-in-Waits : goal.task-returns-in-Waits
 task-returns-in-Waits g t c =
@@ -666,7 +655,7 @@ freed-begun-requires g t c κs within =
     let called = calls m A scopes c.args.left in
     let seen = seen_by A called c.args.place.now c.args.scope.now c.args.dag.now c.args.task.now in
     let begun = begins_now A called c.args.place.now c.in_ok-at.at c.args.scope.now c.args.dag.now c.args.i c.args.task.now (stands_at A called c.args.place.now c.args.scope.now c.args.dag.now c.args.i) seen c.begins.result c.requires.free c.in_ok-at.ensures c.begins.ensures c.if-not-begins.false in
-    (omega arith, (within, (c.requires.ready, (c.requires.plan, (c.requires.turn, (c.requires.board, (begun, (c.requires.place, (c.in_ok-at.ensures, (c.requires.shallow, (c.requires.same, c.requires.were)))))))))))
+    (omega arith, (within, (c.requires.resumes, (c.requires.plan, (c.requires.turn, (c.requires.board, (begun, (c.requires.place, (c.in_ok-at.ensures, (c.requires.shallow, c.requires.were))))))))))
 
 pub freed-returns-then-not-begins : goal.freed-returns-then-not-begins
 freed-returns-then-not-begins g t c =
@@ -705,6 +694,14 @@ freed-returns g t c =
     (gives_as c.args.room.now c.begun.new.room (Ok c.in_ok-made.made) (called (codes "tasks.") (task_place c.args.place.now c.args.i c.args.task.now) inner c.args.task.now.call) (called (codes "tasks.") c.in_ok-at.at inner c.args.task.now.call) here c.in_ok-made.ensures)
     c.in_ok-begin.ensures
 
+pub begun-inside-requires : goal.begun-inside-requires
+begun-inside-requires g t c κs within =
+    let m = c.args.self.now.walk.manifest.now in
+    let A = g.R.Recorded.answers c.args.self.now.walk.recorded.now in
+    let called = calls m A c.args.self.now.walk.globals.now c.args.left in
+    let values = c.in_ok-inner.ensures A called c.args.place.now c.args.scope.now c.args.k c.args.task.now c.requires.board c.requires.turn in
+    (omega arith, (within, (c.requires.resumes, (c.requires.plan, (c.requires.turn.task, (c.requires.place, (c.requires.at, (values, (c.requires.shallow, c.requires.were)))))))))
+
 pub begun-returns-in-Some : goal.begun-returns-in-Some
 begun-returns-in-Some g t c =
     let m = c.args.self.now.walk.manifest.now in
@@ -714,7 +711,7 @@ begun-returns-in-Some g t c =
     let called = calls m A scopes c.args.left in
     let seen = seen_by A called c.args.place.now c.args.scope.now c.args.dag.now c.args.task.now in
     gives_as c.args.room.now c.shared.new.room c.shared.result c.in-Some.old.now (called (codes "tasks.") (task_place c.args.place.now c.args.i c.args.task.now) (seen ++ c.args.scope.now) c.args.task.now.call)
-    (stays_as m A B scopes c.args.left c.args.place.now c.args.scope.now c.args.dag.now c.args.plan.now c.requires.plan c.args.j c.args.were.now c.requires.were c.args.rest.now c.requires.same c.args.i c.args.task.now c.requires.turn.task c.in-Some.old.now c.in-Some.ensures c.requires.begun)
+    (stays_as m A B scopes c.args.left c.args.place.now c.args.scope.now c.args.dag.now c.args.plan.now c.requires.plan c.args.j c.args.were.now c.requires.were c.args.rest.now c.requires.resumes.same c.args.i c.args.task.now c.requires.turn.task c.in-Some.old.now c.in-Some.ensures c.requires.begun)
     c.shared.ensures
 
 pub begun-returns-in_err-state : goal.begun-returns-in_err-state
@@ -729,7 +726,7 @@ begun-returns-in_err-state g t c =
     let values = c.in_ok-inner.ensures A called c.args.place.now c.args.scope.now c.args.k c.args.task.now c.requires.board c.requires.turn in
     by_err (λ r. Gives c.args.room.now c.inside.new.room r whole) c.from_residual-in_err-state.result c.in_err-state.field-0.0 c.from_residual-in_err-state.ensures.1
     (gives_as c.args.room.now c.inside.new.room (Err c.in_err-state.field-0.0) (called (codes "tasks.") c.args.at c.in_ok-inner.inner c.args.task.now.call) whole
-    (inner_as m A B scopes c.args.left c.args.place.now c.args.scope.now c.args.dag.now c.args.plan.now c.requires.plan c.args.j c.args.were.now c.requires.were c.args.rest.now c.requires.same c.args.i c.args.task.now c.requires.turn.task c.args.at c.requires.at c.in_ok-inner.inner values) c.in_err-state.ensures)
+    (inner_as m A B scopes c.args.left c.args.place.now c.args.scope.now c.args.dag.now c.args.plan.now c.requires.plan c.args.j c.args.were.now c.requires.were c.args.rest.now c.requires.resumes.same c.args.i c.args.task.now c.requires.turn.task c.args.at c.requires.at c.in_ok-inner.inner values) c.in_err-state.ensures)
 
 pub begun-returns : goal.begun-returns
 begun-returns g t c =
@@ -742,7 +739,7 @@ begun-returns g t c =
     let whole = called (codes "tasks.") (task_place c.args.place.now c.args.i c.args.task.now) (seen ++ c.args.scope.now) c.args.task.now.call in
     let values = c.in_ok-inner.ensures A called c.args.place.now c.args.scope.now c.args.k c.args.task.now c.requires.board c.requires.turn in
     let done = gives_as c.args.room.now c.inside.new.room (Ok c.in_ok-state.state) (called (codes "tasks.") c.args.at c.in_ok-inner.inner c.args.task.now.call) whole
-    (inner_as m A B scopes c.args.left c.args.place.now c.args.scope.now c.args.dag.now c.args.plan.now c.requires.plan c.args.j c.args.were.now c.requires.were c.args.rest.now c.requires.same c.args.i c.args.task.now c.requires.turn.task c.args.at c.requires.at c.in_ok-inner.inner values) c.in_ok-state.ensures in
+    (inner_as m A B scopes c.args.left c.args.place.now c.args.scope.now c.args.dag.now c.args.plan.now c.requires.plan c.args.j c.args.were.now c.requires.were c.args.rest.now c.requires.resumes.same c.args.i c.args.task.now c.requires.turn.task c.args.at c.requires.at c.in_ok-inner.inner values) c.in_ok-state.ensures in
     (c.in_ok-new.ensures ∙ done.0, done.1)
 
 pub inside-call-requires-2 : goal.inside-call-requires-2
@@ -752,7 +749,7 @@ inside-call-requires-2 g t c κs within =
     let B = g.R.Recorded.answers c.args.self.now.before.now in
     let scopes = c.args.self.now.walk.globals.now in
     let called = calls m A scopes c.args.left in
-    let same = same_inside m A B scopes c.args.left c.args.place.now c.args.scope.now c.args.dag.now c.args.plan.now c.requires.plan c.args.j c.args.were.now c.requires.were c.args.rest.now c.requires.same c.args.i c.args.task.now c.requires.task c.args.at c.requires.at c.args.inner.now c.requires.values c.in-Some.old.now c.in-Some.ensures in
-    let was = c.state-before.ensures ∙ was_inside m A B scopes c.args.left c.args.place.now c.args.scope.now c.args.dag.now c.args.plan.now c.requires.plan c.args.j c.args.were.now c.requires.were c.args.rest.now c.requires.same c.args.i c.args.task.now c.requires.task c.args.at c.requires.at c.args.inner.now c.requires.values c.in-Some.old.now c.in-Some.ensures in
+    let same = same_inside m A B scopes c.args.left c.args.place.now c.args.scope.now c.args.dag.now c.args.plan.now c.requires.plan c.args.j c.args.were.now c.requires.were c.args.rest.now c.requires.resumes.same c.args.i c.args.task.now c.requires.task c.args.at c.requires.at c.args.inner.now c.requires.values c.in-Some.old.now c.in-Some.ensures in
+    let was = c.state-before.ensures ∙ was_inside m A B scopes c.args.left c.args.place.now c.args.scope.now c.args.dag.now c.args.plan.now c.requires.plan c.args.j c.args.were.now c.requires.were c.args.rest.now c.requires.resumes.same c.args.i c.args.task.now c.requires.task c.args.at c.requires.at c.args.inner.now c.requires.values c.in-Some.old.now c.in-Some.ensures in
     let depth : c.args.at.depth ≡ suc c.args.place.now.depth = ap (λ (p : Place). p.depth) c.requires.at in
-    (omega arith, (within, (c.requires.ready, (omega (arith, depth, c.requires.shallow), (same, was)))))
+    (omega arith, (within, (record { ready = c.requires.resumes.ready; same = same }, (omega (arith, depth, c.requires.shallow), was))))

@@ -1,15 +1,13 @@
 -- How the calls of a walk that is made again go down, and what its loops keep.
-use Rattle.std.proofs.Common.{◌≡◌, ◌+◌, ◌*◌, ◌≤◌, ◌++◌, length, take, drop}
-use Rattle.meaning.specs.Lines.{numbered}
+use Rattle.std.proofs.Common.{◌≡◌, ◌+◌, ◌*◌, ◌≤◌, length, take, drop}
 use Rattle.meaning.specs.Steps.{groups_from}
 use Rattle.meaning.specs.Dags.{standings}
-use Rattle.meaning.specs.Calls.{calls, item_made}
+use Rattle.meaning.specs.Calls.{calls}
 use Rattle.dag_board.specs.Boards.{IsBoard}
 use Rattle.tree_walk.specs.Inside.Tasks.{count_at}
 use Rattle.row_states.specs.Rows.{count_row}
 use Rattle.scope_laws.specs.Agreeing.{GroupsAlike}
-use Rattle.tree_walk.specs.Walking.{prefix_of}
-use Rattle.tree_walk.proofs.Groups.{behind, member_at}
+use Rattle.tree_walk.proofs.Groups.{behind}
 use Rattle.tree_change.proofs.again.Again.+again.Given as goal
 
 abbrev pub decreases-call : goal.decreases-call
@@ -17,9 +15,6 @@ decreases-call g l = 32 * l.left
 
 abbrev pub decreases-looped : goal.decreases-looped
 decreases-looped g l = 32 * l.left + 30
-
-abbrev pub decreases-items : goal.decreases-items
-decreases-items g l = 32 * l.left + 29
 
 abbrev pub decreases-item : goal.decreases-item
 decreases-item g l = 32 * l.left + 28
@@ -51,39 +46,8 @@ decreases-group_at g l = 32 * l.left + 5
 abbrev pub decreases-group : goal.decreases-group
 decreases-group g l = 32 * l.left + 4
 
-abbrev pub decreases-members : goal.decreases-members
-decreases-members g l = 32 * l.left + 3
-
 abbrev pub decreases-member : goal.decreases-member
 decreases-member g l = 32 * l.left + 2
-
--- the items before this one are made
-abbrev pub invariant-items-loop-item : goal.invariant-items-loop-item
-invariant-items-loop-item g l =
-    let m = l.self.walk.manifest.now in
-    let A = g.R.Recorded.answers l.self.walk.recorded.now in
-    let scopes = l.self.walk.globals.now in
-    let made = item_made m A scopes (calls m A scopes l.left) (prefix_of l.of) l.place l.scope l.call in
-    record {
-      counted : l.i ≡ l.item-index;
-      told : l.states ++ numbered made l.i (drop l.i l.items) ≡ numbered made 0 l.items;
-      long : length l.states ≡ l.i;
-      room : l.room + count_row l.states ≡ l.fn.room;
-    }
-
--- the members before this one are made
-abbrev pub invariant-members-loop-call : goal.invariant-members-loop-call
-invariant-members-loop-call g l =
-    let m = l.self.walk.manifest.now in
-    let A = g.R.Recorded.answers l.self.walk.recorded.now in
-    let scopes = l.self.walk.globals.now in
-    let made = member_at (calls m A scopes l.left) l.group l.scope in
-    record {
-      counted : l.j ≡ l.call-index;
-      told : l.states ++ numbered made l.j (drop l.j l.calls) ≡ numbered made 0 l.calls;
-      long : length l.states ≡ l.j;
-      room : l.room + count_row l.states ≡ l.fn.room;
-    }
 
 -- the groups before this one are made, and Succeeded; up to the one that the path goes down into they are as they were
 abbrev pub invariant-groups-loop-calls : goal.invariant-groups-loop-calls
