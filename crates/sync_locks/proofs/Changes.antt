@@ -1,5 +1,5 @@
 -- One request of a list is changed, found by a test or at its place.
-use Rattle.std.proofs.Common.{◌≡◌, ℕ, zero, suc, ◌<◌, Bool, true, false, cond, ◌||◌, List, [], ◌∷◌, ◌++◌, length, Option, Some, None, option_map, refl, sym, ◌∙◌, ap, ap₂, arith, true≢false, length-append}
+use Rattle.std.proofs.Common.{◌≡◌, ℕ, ◌<◌, Bool, true, false, cond, ◌||◌, List, [], ◌∷◌, ◌++◌, length, Option, Some, None, option_map, refl, sym, ◌∙◌, ap, ap₂, arith, true≢false, length-append}
 use Rattle.std.proofs.Math.ListN.{set}
 use Rattle.std.specs.Prelude.{slice_get}
 use Rattle.std.specs.List.{list_any}
@@ -11,7 +11,7 @@ use Rattle.books.specs.Books.{key_eq, change_first, request_of}
 use Rattle.books.specs.Laws.{is_of}
 use Rattle.sync_locks.specs.Book.{state_in}
 use Rattle.sync_locks.specs.Inside.Rows.{place}
-use Rattle.sync_locks.proofs.Ranked.{At, at_place}
+use Rattle.sync_locks.proofs.Places.{At, at_place}
 
 pub unchanged : (test : Request → Bool) (f : Request → Request) (rs : List Request) → list_any test rs ≡ false → change_first test f rs ≡ rs
 unchanged test f [] n = refl
@@ -36,6 +36,9 @@ set_there (p ∷ front) back r q = ap (λ x. p ∷ x) (set_there front back r q)
 pub place_within : (test : Request → Bool) (rs : List Request) (i : ℕ) → At test rs i → i < length rs
 place_within test rs i a = let e = ap length a.is ∙ length-append a.front (a.found ∷ a.back) in let l = a.long in omega arith
 
+pub within : (rs : List Request) (test : Request → Bool) (x : ℕ) → place test rs ≡ Some x → x < length rs
+within rs test x e = place_within test rs x (at_place test rs x e)
+
 pub stands_at : (test : Request → Bool) (rs : List Request) (i : ℕ) (a : At test rs i) → slice_get rs i ≡ Some a.found
 stands_at test rs i a = ap₂ (λ (x : List Request) (n : ℕ). slice_get x n) a.is (sym a.long) ∙ here_there a.front a.back a.found
   where
@@ -57,11 +60,6 @@ request_there key (q ∷ front) back r f t = by (key_eq key q.key) f (λ k. requ
     by : (c : Bool) → (c || list_any (is_of key) front) ≡ false → (list_any (is_of key) front ≡ false → request_of (front ++ r ∷ back) key ≡ Some r) → cond c (Some q) (request_of (front ++ r ∷ back) key) ≡ Some r
     by true h ih = absurd (true≢false h)
     by false h ih = ih h
-
-pub stands_set : (rs : List Request) (i : ℕ) (q : Request) → i < length rs → slice_get (set rs i q) i ≡ Some q
-stands_set [] i q h = absurd (omega arith)
-stands_set (r ∷ rs) zero q h = refl
-stands_set (r ∷ rs) (suc i) q h = stands_set rs i q (omega arith)
 
 pub request_at : (key : HolderKey) (rs : List Request) (i : ℕ) (a : At (is_of key) rs i) → request_of rs key ≡ Some a.found
 request_at key rs i a = ap (λ (x : List Request). request_of x key) a.is ∙ request_there key a.front a.back a.found a.none a.passes

@@ -13,8 +13,8 @@ use Rattle.books.specs.Laws.{is_of, IsWellKept, FilesOnce, FilesWellKept, FreesW
 use Rattle.sync_locks.specs.Inside.Rows as rows
 use Rattle.sync_locks.specs.Book.{state_in}
 use Rattle.sync_locks.specs.Inside.Rows.{place, state_by}
-use Rattle.sync_locks.proofs.Ranked.{At, at_place}
-use Rattle.sync_locks.proofs.Changes.{stands_at, stands_set, place_within, changed_at, request_at, holder_there}
+use Rattle.sync_locks.proofs.Places.{At, at_place}
+use Rattle.sync_locks.proofs.Changes.{stands_at, changed_at, request_at, request_placed, holder_there}
 
 -- ---- a filing
 
@@ -43,17 +43,12 @@ some_same : (a b : Request) → Some a ≡ Some b → a ≡ b
 some_same a b e = cc
 
 -- the request of the key is released at its place, and its lock passed on from there
-module _ (once : ReleasesOnce) (frees : FreesWellKept) (limits : List Limit) (rs middle after : List Request) (key : HolderKey) (i : ℕ) (kept : IsWellKept limits rs) (placed : place (is_of key) rs ≡ Some i) (holds : state_in key rs ≡ Some Holding) (set : (r : Request) → slice_get rs i ≡ Some r → middle ≡ slice_set rs i (released r)) (passed : (r : Request) → slice_get middle i ≡ Some r → after ≡ passed_on r.lock.text middle) where
+module _ (once : ReleasesOnce) (frees : FreesWellKept) (limits : List Limit) (rs after : List Request) (key : HolderKey) (i : ℕ) (kept : IsWellKept limits rs) (placed : place (is_of key) rs ≡ Some i) (holds : state_in key rs ≡ Some Holding) (passed : (r : Request) → slice_get rs i ≡ Some r → after ≡ passed_on r.lock.text (slice_set rs i (released r))) where
   a : At (is_of key) rs i
   a = at_place (is_of key) rs i placed
 
-  middle_is : middle ≡ slice_set rs i (released a.found)
-  middle_is = set a.found (stands_at (is_of key) rs i a)
-
   after_is : after ≡ passed_on a.found.lock.text (change_first (is_of key) released rs)
-  after_is =
-      passed (released a.found) (ap (λ (x : List Request). slice_get x i) middle_is ∙ stands_set rs i (released a.found) (place_within (is_of key) rs i a))
-      ∙ ap (passed_on a.found.lock.text) (middle_is ∙ sym (changed_at (is_of key) released rs i a))
+  after_is = passed a.found (stands_at (is_of key) rs i a) ∙ ap (passed_on a.found.lock.text) (sym (changed_at (is_of key) released rs i a))
 
   pub freed_rows : after ≡ freed limits key rs
   freed_rows = by (holder_there key rs holds)
@@ -67,3 +62,7 @@ module _ (once : ReleasesOnce) (frees : FreesWellKept) (limits : List Limit) (rs
 
   pub freed_kept : IsWellKept limits after
   freed_kept = subst (IsWellKept limits) (sym freed_rows) (frees limits rs key kept)
+
+-- the request at the place of a key stands as that of the key
+pub stands_so : (rs : List Request) (key : HolderKey) (i : ℕ) → place (is_of key) rs ≡ Some i → state_in key rs ≡ Some Holding → option_map rows.state_of (slice_get rs i) ≡ Some Holding
+stands_so rs key i placed holds = ap (option_map rows.state_of) (request_placed key rs i placed) ∙ holds

@@ -1,8 +1,12 @@
 pub mod Keys
 pub mod Stands
 pub mod Tabled
-pub mod Scans
+pub mod Sums
 pub mod Ranked
-pub mod Changes
 pub mod Places
+pub mod Changes
+pub mod Turns
+pub mod Lines
+pub mod Kept
+pub mod Released
 pub mod Events

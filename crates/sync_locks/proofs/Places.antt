@@ -1,59 +1,47 @@
--- Places within requests, and the first waiter as one request more is looked at.
-use Rattle.std.proofs.Common.{◌≡◌, ℕ, ◌<◌, ◌≤◌, Bool, true, false, cond, List, [], ◌∷◌, ◌++◌, length, take, Option, Some, None, refl, sym, ◌∙◌, ap, ap₂, arith, append_assoc}
-use Rattle.std.specs.Prelude.{slice_get, option_and_then}
-use Rattle.std.proofs.lemmas.List.{length-take-le}
+-- Where the first request that passes a test stands.
+use Rattle.std.proofs.Common.{◌≡◌, ℕ, suc, Bool, true, false, cond, ◌||◌, List, [], ◌∷◌, ◌++◌, length, Option, Some, None, option_map, refl, ◌∙◌, ap, ap₂}
 use Rattle.std.specs.List.{list_any}
-use Rattle.std.specs.Cmp.{IsTotalOrder}
 use Rattle.books.specs.declared.Request.{Request}
-use Rattle.books.specs.Books.{Text, rank_cmp, before}
-use Rattle.books.specs.Laws.{waits_for, is_first_for}
-use Rattle.sync_locks.specs.Inside.Rows.{place, first_place, next_place, sooner, ranks_sooner}
-use Rattle.sync_locks.proofs.Ranked.{At, at_place, first_only, first_passed, first_stays}
-use Rattle.sync_locks.proofs.Changes.{place_within}
+use Rattle.sync_locks.specs.Inside.Rows.{place}
 
-pub within : (rs : List Request) (test : Request → Bool) (x : ℕ) → place test rs ≡ Some x → x < length rs
-within rs test x e = place_within test rs x (at_place test rs x e)
+-- what stands at a place
+pub record At (test : Request → Bool) (rs : List Request) (i : ℕ) : Type 0 where
+  pub front : List Request
+  pub found : Request
+  pub back : List Request
+  pub is : rs ≡ front ++ found ∷ back
+  pub long : length front ≡ i
+  pub none : list_any test front ≡ false
+  pub passes : test found ≡ true
 
-pub seen_within : (test : Request → Bool) (rs : List Request) (i x : ℕ) → i ≤ length rs → place test (take i rs) ≡ Some x → x < length rs
-seen_within test rs i x h e =
-    let a = within (take i rs) test x e in
-    let b = length-take-le i rs h in
-    omega arith
-
-pub next_within : (rs : List Request) (i x : ℕ) → next_place i rs ≡ Some x → x < length rs
-next_within rs i x e = by (slice_get rs i) e
+pub at_place : (test : Request → Bool) (rs : List Request) (i : ℕ) → place test rs ≡ Some i → At test rs i
+at_place test [] i e = absurd (cc e)
+at_place test (r ∷ rs) i e = by (test r) refl (place test rs) refl e (λ j p. at_place test rs j p)
   where
-    by : (o : Option Request) → option_and_then (λ (r : Request). first_place r.lock.text rs) o ≡ Some x → x < length rs
-    by None e = absurd (cc e)
-    by (Some r) e = within rs (is_first_for r.lock.text rs) x e
+    behind : (j : ℕ) → test r ≡ false → suc j ≡ i → At test rs j → At test (r ∷ rs) i
+    behind j f e a = record {
+      front = r ∷ a.front;
+      found = a.found;
+      back = a.back;
+      is = ap (λ x. r ∷ x) a.is;
+      long = ap suc a.long ∙ e;
+      none = ap₂ ◌||◌ f a.none;
+      passes = a.passes;
+    }
 
-get_there : (front back : List Request) (r : Request) → slice_get (front ++ r ∷ back) (length front) ≡ Some r
-get_there [] back r = refl
-get_there (q ∷ front) back r = get_there front back r
+    by : (b : Bool) → test r ≡ b → (o : Option ℕ) → place test rs ≡ o → cond b (Some 0) (option_map suc o) ≡ Some i → ((j : ℕ) → place test rs ≡ Some j → At test rs j) → At test (r ∷ rs) i
+    by true t o p e ih = record { front = []; found = r; back = rs; is = refl; long = (let z : 0 ≡ i = cc in z); none = refl; passes = t }
+    by false f None p e ih = absurd (cc e)
+    by false f (Some j) p e ih = behind j f (let z : suc j ≡ i = cc in z) (ih j p)
 
--- what was found so far stands there in the whole
-found_in : (test : Request → Bool) (seen more : List Request) (i : ℕ) (a : At test seen i) → slice_get (seen ++ more) i ≡ Some a.found
-found_in test seen more i a =
-    ap₂ (λ (x : List Request) (n : ℕ). slice_get (x ++ more) n) a.is (sym a.long)
-    ∙ ap (λ (x : List Request). slice_get x (length a.front)) (append_assoc a.front (a.found ∷ a.back) more)
-    ∙ get_there a.front (a.back ++ more) a.found
+some_nothing : {A : Type 0} (i : ℕ) → Some i ≡ None → A
+some_nothing i e = absurd (cc e)
 
--- of the first so far and a later waiter the one that goes first is first
-pub first_more :
-    (total : IsTotalOrder rank_cmp) (lock : Text) (all seen rest : List Request) (r : Request) (first : Option ℕ) →
-    all ≡ seen ++ r ∷ rest → waits_for lock r ≡ true → first ≡ first_place lock seen → (first ≡ None → list_any (waits_for lock) seen ≡ false) →
-    first_place lock (seen ++ r ∷ []) ≡ Some (sooner all first (length seen))
-first_more total lock all seen rest r None is w f n = first_only total lock seen r (n refl) w
-first_more total lock all seen rest r (Some i) is w f n =
-    by (before r.rank a.found.rank) refl
-    ∙ ap (λ (b : Bool). Some (cond b (length seen) i)) (sym ranks)
+pub none_there : (test : Request → Bool) (rs : List Request) → place test rs ≡ None → list_any test rs ≡ false
+none_there test [] n = refl
+none_there test (r ∷ rs) n = by (test r) (place test rs) refl n (λ e. none_there test rs e)
   where
-    a : At (is_first_for lock seen) seen i
-    a = at_place (is_first_for lock seen) seen i (sym f)
-
-    ranks : ranks_sooner (slice_get all (length seen)) (slice_get all i) ≡ before r.rank a.found.rank
-    ranks = ap₂ ranks_sooner (ap (λ (x : List Request). slice_get x (length seen)) is ∙ get_there seen rest r) (ap (λ (x : List Request). slice_get x i) is ∙ found_in (is_first_for lock seen) seen (r ∷ rest) i a)
-
-    by : (b : Bool) → before r.rank a.found.rank ≡ b → first_place lock (seen ++ r ∷ []) ≡ Some (cond (before r.rank a.found.rank) (length seen) i)
-    by true e = first_passed total lock seen r i a w e ∙ ap (λ (b : Bool). Some (cond b (length seen) i)) (sym e)
-    by false e = first_stays total lock seen r i a e ∙ ap (λ (b : Bool). Some (cond b (length seen) i)) (sym e)
+    by : (b : Bool) (o : Option ℕ) → place test rs ≡ o → cond b (Some 0) (option_map suc o) ≡ None → (place test rs ≡ None → list_any test rs ≡ false) → (b || list_any test rs) ≡ false
+    by true o e n ih = some_nothing 0 n
+    by false None e n ih = ih e
+    by false (Some i) e n ih = some_nothing (suc i) n

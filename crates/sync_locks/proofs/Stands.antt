@@ -9,7 +9,7 @@ use Rattle.books.specs.Books.{key_eq}
 use Rattle.books.specs.Laws.{is_of}
 use Rattle.tree_types.specs.declared.entry.HolderKey.{HolderKey}
 use Rattle.sync_locks.specs.Book.{standing}
-use Rattle.sync_locks.specs.declared.requests.Asked.{Asked}
+use Rattle.sync_locks.specs.declared.asked.Asked.{Asked}
 use Rattle.sync_locks.specs.Inside.Rows.{request_of, requests_in, asked_of, state_of, passes}
 
 pub length_in : (asked : List Asked) (states : List LockState) → length states ≡ length asked → length (requests_in asked states) ≡ length states
@@ -18,7 +18,7 @@ length_in [] (s ∷ states) h = absurd (omega arith)
 length_in (a ∷ asked) [] h = absurd (omega arith)
 length_in (a ∷ asked) (s ∷ states) h = ap suc (length_in asked states (omega arith))
 
-asked_at : (asked : List Asked) (states : List LockState) (i : ℕ) → length states ≡ length asked → slice_get asked i ≡ option_map asked_of (slice_get (requests_in asked states) i)
+pub asked_at : (asked : List Asked) (states : List LockState) (i : ℕ) → length states ≡ length asked → slice_get asked i ≡ option_map asked_of (slice_get (requests_in asked states) i)
 asked_at [] states i h = refl
 asked_at (a ∷ asked) [] i h = absurd (omega arith)
 asked_at (a ∷ asked) (s ∷ states) zero h = refl

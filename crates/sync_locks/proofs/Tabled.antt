@@ -1,21 +1,21 @@
 -- A table of the places of requests: with one request more, or one in another state, and what is found by it.
-use Rattle.std.proofs.Common.{◌≡◌, ℕ, zero, suc, ◌+◌, ◌<◌, Bool, true, false, cond, List, [], ◌∷◌, ◌++◌, length, length-append, drop, drop-cons, add-one, set, replicate, eq-eqb, Option, Some, None, option_map, refl, sym, ◌∙◌, ap, ap₂, subst, arith, true≢false}
+use Rattle.std.proofs.Common.{◌≡◌, ℕ, zero, suc, ◌+◌, ◌<◌, Bool, true, false, cond, List, [], ◌∷◌, ◌++◌, length, drop, drop-cons, add-one, set, replicate, eq-eqb, Option, Some, None, option_map, refl, sym, ◌∙◌, ap, ap₂, subst, arith, true≢false}
 use Rattle.std.specs.Prelude.{slice_get}
 use Rattle.std.specs.List.{find}
 use Rattle.std.proofs.lemmas.Bool.{eqb-true}
-use Rattle.std.proofs.lemmas.List.{append-nil, length-set}
+use Rattle.std.proofs.lemmas.List.{append-nil}
 use Rattle.std.proofs.lemmas.Option.{slice_get_within, get_or_from_slice_get}
 use Rattle.tree_types.specs.declared.entry.HolderKey.{HolderKey}
 use Rattle.books.specs.declared.Request.{Request}
 use Rattle.books.specs.declared.LockState.{LockState}
 use Rattle.books.specs.Laws.{is_of}
-use Rattle.sync_locks.specs.declared.requests.Asked.{Asked}
+use Rattle.sync_locks.specs.declared.asked.Asked.{Asked}
 use Rattle.buckets.specs.Buckets.{buckets}
 use Rattle.sync_locks.specs.Inside.Buckets.{bucket_of}
 use Rattle.sync_locks.specs.Inside.Rows.{request_of, requests_in, is_at, place}
-use Rattle.sync_locks.specs.Inside.Tables.{belongs, places_from, places_of, IsTabled, IsKept}
+use Rattle.sync_locks.specs.Inside.Tables.{belongs, places_from, places_of, IsTabled}
 use Rattle.sync_locks.proofs.Keys.{belongs_there}
-use Rattle.sync_locks.proofs.Stands.{length_in, requests_more, requests_set, some_same, there}
+use Rattle.sync_locks.proofs.Stands.{requests_more, some_same, there}
 
 -- ---- a table in which one bucket was replaced
 
@@ -65,20 +65,13 @@ tabled_more rs table r own e h t = record {
   each = λ bucket k. more_by rs table r own bucket e k (slice_get_within table own (places_of own rs) (t.each own h)) t (belongs bucket r) refl;
 }
 
-kept_more : (asked : List Asked) (states : List LockState) (table : List (List ℕ)) (a : Asked) (s : LockState) (own : ℕ) → own ≡ bucket_of a.key.workflow a.key.path.sels → own < buckets → IsKept asked states table → IsKept (asked ++ a ∷ []) (states ++ s ∷ []) (set table own (places_of own (requests_in asked states) ++ length (requests_in asked states) ∷ []))
-kept_more asked states table a s own e h kept = record {
-  each_stands = (let x = length-append asked (a ∷ []) in let y = length-append states (s ∷ []) in let z = kept.each_stands in omega arith);
-  tabled = subst (λ (rs : List Request). IsTabled rs (set table own (places_of own (requests_in asked states) ++ length (requests_in asked states) ∷ []))) (sym (requests_more asked states a s kept.each_stands)) (tabled_more (requests_in asked states) table (request_of a s) own e h kept.tabled);
-}
-
 -- a request is added, and its place to its bucket
-pub kept_added :
-    (asked asked' : List Asked) (states states' : List LockState) (table table' : List (List ℕ)) (places : List ℕ) (a : Asked) (s : LockState) (own : ℕ) →
-    own ≡ bucket_of a.key.workflow a.key.path.sels → own < buckets → IsKept asked states table →
-    asked' ≡ asked ++ a ∷ [] → states' ≡ states ++ s ∷ [] → table' ≡ set table own places →
-    places ≡ places_of own (requests_in asked states) ++ length (requests_in asked states) ∷ [] → IsKept asked' states' table'
-kept_added asked asked' states states' table table' places a s own e h kept asked_is states_is table_is places_are =
-    rw (asked_is, states_is, table_is, places_are) (kept_more asked states table a s own e h kept)
+pub tabled_added :
+    (asked : List Asked) (states : List LockState) (table : List (List ℕ)) (a : Asked) (s : LockState) (own : ℕ) →
+    own ≡ bucket_of a.key.workflow a.key.path.sels → own < buckets → length states ≡ length asked → IsTabled (requests_in asked states) table →
+    IsTabled (requests_in (asked ++ a ∷ []) (states ++ s ∷ [])) (set table own (places_of own (requests_in asked states) ++ length (requests_in asked states) ∷ []))
+tabled_added asked states table a s own e h even tabled =
+    subst (λ (rs : List Request). IsTabled rs (set table own (places_of own (requests_in asked states) ++ length (requests_in asked states) ∷ []))) (sym (requests_more asked states a s even)) (tabled_more (requests_in asked states) table (request_of a s) own e h tabled)
 
 -- ---- no requests
 
@@ -87,11 +80,8 @@ replicate_get zero k x h = absurd (omega arith)
 replicate_get (suc n) zero x h = refl
 replicate_get (suc n) (suc k) x h = replicate_get n k x (omega arith)
 
-pub kept_none : (table : List (List ℕ)) → table ≡ replicate buckets [] → IsKept [] [] table
-kept_none table e = record {
-  each_stands = refl;
-  tabled = record { each = λ bucket h. ap (λ (xs : List (List ℕ)). slice_get xs bucket) e ∙ replicate_get buckets bucket [] h };
-}
+pub tabled_none : IsTabled [] (replicate buckets [])
+tabled_none = record { each = λ bucket h. replicate_get buckets bucket [] h }
 
 -- ---- a request in another state
 
@@ -100,21 +90,10 @@ places_set here bucket [] i s r e = absurd (cc e)
 places_set here bucket (q ∷ rs) zero s r e = ap (λ (x : Request). cond (belongs bucket x) (here ∷ places_from (suc here) bucket rs) (places_from (suc here) bucket rs)) (sym (some_same q r e))
 places_set here bucket (q ∷ rs) (suc i) s r e = ap (λ (x : List ℕ). cond (belongs bucket q) (here ∷ x) x) (places_set (suc here) bucket rs i s r e)
 
-pub kept_set : (asked : List Asked) (states : List LockState) (table : List (List ℕ)) (i : ℕ) (s : LockState) → i < length states → IsKept asked states table → IsKept asked (set states i s) table
-kept_set asked states table i s h kept = by (there rs i (let l = length_in asked states kept.each_stands in omega arith))
-  where
-    rs : List Request
-    rs = requests_in asked states
-
-    by : (r : Request) × (slice_get rs i ≡ Some r) → IsKept asked (set states i s) table
-    by x = record {
-      each_stands = length-set states i s ∙ kept.each_stands;
-      tabled = record {
-        each = λ bucket h.
-            kept.tabled.each bucket h
-            ∙ ap Some (sym (ap (places_of bucket) (requests_set asked states i s x.0 kept.each_stands x.1) ∙ places_set 0 bucket rs i s x.0 x.1));
-      };
-    }
+pub tabled_set : (rs : List Request) (table : List (List ℕ)) (i : ℕ) (s : LockState) (r : Request) → slice_get rs i ≡ Some r → IsTabled rs table → IsTabled (set rs i (record r { state = s })) table
+tabled_set rs table i s r e tabled = record {
+  each = λ bucket h. tabled.each bucket h ∙ ap Some (sym (places_set 0 bucket rs i s r e));
+}
 
 -- ---- what is found in a bucket
 

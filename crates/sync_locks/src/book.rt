@@ -1,8 +1,9 @@
 //! The lock book. Its functions call the laws of `books`, which do nothing, for what they say.
 
+use crate::asked::Asked;
 use crate::limit::limit_of;
 use crate::refused::{FileRefused, NotHolding};
-use crate::requests::{Asked, Requests, new_state};
+use crate::requests::{Requests, new_state};
 use base_types::{Memory, Text, TryCopy};
 use books::{LockState, laws};
 use std::marker::Model;
@@ -86,8 +87,7 @@ impl LockBook {
         match self.requests.holder_of(key) {
             None => Err(NotHolding),
             Some(place) => {
-                self.requests.set_state(place, LockState::Released);
-                self.requests.pass_on(place);
+                self.requests.release(place);
                 Ok(())
             }
         }

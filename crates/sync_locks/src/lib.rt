@@ -1,9 +1,11 @@
 //! The lock book as code: which keys wait for which locks, which hold them, and to whom a lock goes.
 #![tactic(auto)]
 
+mod asked;
 mod book;
 mod bucket;
 mod limit;
+mod queue;
 mod ranking;
 mod refused;
 mod requests;

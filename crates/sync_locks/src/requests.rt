@@ -1,53 +1,40 @@
 //! The requests of a book, and the looks for some of them.
 
-ghost use Rattle.std.specs.Prelude.{◌≡◌, ◌<◌, length, List, [], ◌∷◌, ◌++◌, IfOk, OnOk, OnErr, MatchOption, option_map, Some, nat_lt, slice_get, slice_set};
-ghost use Rattle.std.specs.Option.{ForSome};
+ghost use Rattle.std.specs.Prelude.{◌≡◌, ◌<◌, ◌≤◌, length, List, [], ◌∷◌, ◌++◌, IfOk, OnOk, OnErr, MatchOption, option_map, Some, nat_lt, slice_get, slice_set};
 ghost use Rattle.std.specs.List.{find};
 ghost use Rattle.books.specs.declared.Request.{Request};
 ghost use Rattle.books.specs.Books as books;
 ghost use Rattle.books.specs.Laws as laws;
 ghost use Rattle.buckets.specs.Buckets.{buckets};
 ghost use Rattle.sync_locks.specs.Book.{state_in, key_by, standing_of};
+ghost use Rattle.sync_locks.specs.Inside.Queues as queues;
 ghost use Rattle.sync_locks.specs.Inside.Rows as rows;
 ghost use Rattle.sync_locks.specs.Inside.Tables.{places_of};
 
+use crate::asked::Asked;
 use crate::bucket::bucket_of;
-use crate::ranking::is_before;
-use base_types::{Memory, Text};
+use crate::queue::{count_for, first_for, position_of, turn_for};
+use base_types::{Memory, Text, TryCopy};
 use books::{LockState, laws};
 use buckets::BUCKETS;
-use sharing::SharedList;
+use sharing::{Row, SharedList};
 use std::alloc::Global;
 use std::marker::Model;
-use tree_types::{HolderKey, LockId, Path, Rank};
-
-// What a key asked for, which never changes.
-#[derive(Drop)]
-pub(crate) struct Asked {
-    pub lock: LockId,
-    pub key: HolderKey,
-    pub rank: Rank,
-}
-
-impl Asked {
-    // Whether it is of the key of these parts.
-    fn is_by(&self, workflow: &Text, path: &Path) -> bool
-        ensures { result ≡ books.key_eq (key_by workflow.now path.now) self.now.key }
-    {
-        *workflow == self.key.workflow && *path == self.key.path
-    }
-}
+use tree_types::{HolderKey, LockId, Path};
 
 // The places of the requests whose keys belong to one bucket, in order.
-type Bucket = SharedList<usize>;
+type Bucket = Row<u64>;
 
-// The requests in order of filing, and their places by keys. Copies share all but the states. These are a plain list, so
-// that a change of a state needs no memory, and that a look at all states costs little.
+// The requests in order of filing, their places by keys, and the places of those that hold a lock, in any order, and of those
+// that wait, in the order in which they go. Copies share what was asked for and the table. The rest are plain lists, so that
+// a release needs no memory.
 #[derive(Drop)]
 pub(crate) struct Requests {
     asked: SharedList<Asked>,
     states: Vec<LockState>,
     table: SharedList<Bucket>,
+    holding: Vec<usize>,
+    waiting: Vec<usize>,
 }
 
 impl Model for Requests {
@@ -60,18 +47,20 @@ impl Model for Requests {
 
     ghost view = { λ all. requests_in all.asked all.states.items };
 
-    ghost invariant = { λ all. IsKept all.asked all.states.items all.table };
+    ghost invariant = { λ all. IsKept all.asked all.states.items all.table all.holding.items all.waiting.items };
 }
 
 impl Requests {
     pub(crate) fn new(alloc: Global) -> Result<Requests, Memory>
         ensures { IfOk result (λ all. all ≡ []) }
     {
-        let empty = SharedList::new(alloc)?;
+        let empty = Row::new(alloc)?;
         Ok(Requests {
             asked: SharedList::new(alloc)?,
             states: Vec::new(alloc),
             table: SharedList::filled(alloc, empty, BUCKETS)?,
+            holding: Vec::new(alloc),
+            waiting: Vec::new(alloc),
         })
     }
 
@@ -83,6 +72,8 @@ impl Requests {
             asked: self.asked.share()?,
             states: self.states.clone()?,
             table: self.table.share()?,
+            holding: self.holding.clone()?,
+            waiting: self.waiting.clone()?,
         })
     }
 
@@ -91,14 +82,16 @@ impl Requests {
         ensures ok { OnOk result (self.new ≡ self.old ++ rows.request_of asked state ∷ []) }
         ensures err { OnErr result (self.new ≡ self.old) }
     {
+        laws::orders_ranks();
+        let place = self.len();
         let key = bucket_of(&asked.key.workflow, &asked.key.path);
-        let mut bucket = self.bucket(key).share()?;
-        bucket.push(self.len())?;
-        let mut table = self.table.share()?;
-        table.set(key, bucket)?;
-        let mut all = self.asked.share()?;
-        all.push(asked)?;
-        self.states.push(state)?;
+        let turn = turn_for(&self.asked, self.waiting.as_slice(), &asked.rank);
+        let bucket = self.bucket(key).copy()?;
+        let table = with_place(&self.table, key, bucket, place)?;
+        let all = with_asked(&self.asked, asked)?;
+        self.states.try_reserve(1)?;
+        list_new(&mut self.holding, &mut self.waiting, state, place, turn)?;
+        self.states.push_reserved(state);
         self.asked = all;
         self.table = table;
         Ok(())
@@ -141,26 +134,12 @@ impl Requests {
         }
     }
 
-    fn holds(&self, place: usize, lock: &LockId) -> bool
-        requires { place < length self.now }
-        ensures { result ≡ rows.is_at (books.holds lock.now.text) self.now place }
-    {
-        matches!(self.state(place), LockState::Holding) && self.asked(place).lock.text == lock.text
-    }
-
-    fn waits_for(&self, place: usize, lock: &LockId) -> bool
-        requires { place < length self.now }
-        ensures { result ≡ rows.is_at (laws.waits_for lock.now.text) self.now place }
-    {
-        matches!(self.state(place), LockState::Waiting) && self.asked(place).lock.text == lock.text
-    }
-
     // The first place in a bucket whose request is of the key of these parts.
     fn find_in(&self, bucket: &Bucket, workflow: &Text, path: &Path) -> Option<usize>
         ensures { result ≡ find (rows.is_at (laws.is_of (key_by workflow.now path.now)) self.now) bucket.now }
     {
         for i in 0..bucket.len() {
-            let place = *bucket.get(i).unwrap();
+            let place = *bucket.get(i).unwrap() as usize;
             if self.is_by(place, workflow, path) {
                 return Some(place);
             }
@@ -199,74 +178,33 @@ impl Requests {
     pub(crate) fn holders_of(&self, lock: &LockId) -> u64
         ensures { result ≡ books.holders lock.now.text self.now }
     {
-        let mut count = 0u64;
-        for place in 0..self.len() {
-            if self.holds(place, lock) {
-                count += 1;
-            }
-        }
-        count
+        count_for(&self.asked, self.holding.as_slice(), lock)
     }
 
-    // Which of two waiters goes first: the one that was found so far, if there is one, or a later one.
-    fn sooner(&self, first: Option<usize>, later: usize) -> usize
-        requires later { later < length self.now }
-        requires first { ForSome first (λ f. f < length self.now) }
-        ensures { result ≡ rows.sooner self.now first later }
-    {
-        match first {
-            None => later,
-            Some(first) => {
-                if is_before(&self.asked(later).rank, &self.asked(first).rank) {
-                    later
-                } else {
-                    first
-                }
-            }
-        }
-    }
-
-    // Where the first waiter of a lock stands.
-    fn first_waiter(&self, lock: &LockId) -> Option<usize>
-        ensures { result ≡ rows.first_place lock.now.text self.now }
+    // Releases the lock that a request holds, which goes to the first of its waiters, if there is one.
+    pub(crate) fn release(&mut self, place: usize)
+        requires { option_map rows.state_of (slice_get self.old place) ≡ Some LockState.Holding }
+        ensures { (r : Request) → slice_get self.old place ≡ Some r
+            → self.new ≡ laws.passed_on r.lock.text (slice_set self.old place (books.released r)) }
     {
         laws::orders_ranks();
-        let mut first = None;
-        for place in 0..self.len() {
-            if self.waits_for(place, lock) {
-                first = Some(self.sooner(first, place));
+        let held = position_of(self.holding.as_slice(), place).unwrap();
+        let next = first_for(
+            &self.asked,
+            self.waiting.as_slice(),
+            &self.asked(place).lock,
+        );
+        self.states[place] = LockState::Released;
+        match next {
+            None => {
+                self.holding.remove(held);
             }
-        }
-        first
-    }
-
-    // Where the first waiter for the lock of a request stands.
-    fn next_for(&self, place: usize) -> Option<usize>
-        requires { place < length self.now }
-        ensures { result ≡ rows.next_place place self.now }
-    {
-        self.first_waiter(&self.asked(place).lock)
-    }
-
-    // Gives a request another state.
-    pub(crate) fn set_state(&mut self, place: usize, state: LockState)
-        requires { place < length self.old }
-        ensures len { length self.new ≡ length self.old }
-        ensures set { (r : Request) → slice_get self.old place ≡ Some r
-            → self.new ≡ slice_set self.old place (record r { state = state }) }
-    {
-        self.states[place] = state;
-    }
-
-    // Hands the lock of a request to its first waiter, if there is one.
-    pub(crate) fn pass_on(&mut self, place: usize)
-        requires { place < length self.old }
-        ensures { (r : Request) → slice_get self.old place ≡ Some r
-            → self.new ≡ laws.passed_on r.lock.text self.old }
-    {
-        match self.next_for(place) {
-            None => {}
-            Some(first) => self.set_state(first, LockState::Holding),
+            Some(turn) => {
+                let first = self.waiting.remove(turn);
+                self.states[first] = LockState::Holding;
+                // The new holder takes the place of the old one, which needs no memory.
+                self.holding[held] = first;
+            }
         }
     }
 
@@ -288,6 +226,52 @@ impl Requests {
             }
         }
     }
+}
+
+// The table with one place more at the end of a bucket.
+fn with_place(
+    table: &SharedList<Bucket>,
+    key: usize,
+    bucket: Bucket,
+    place: usize,
+) -> Result<SharedList<Bucket>, Memory>
+    requires { key < length table.now }
+    ensures { IfOk result (λ t. t ≡ slice_set table.now key (bucket ++ place ∷ [])) }
+{
+    let mut bucket = bucket;
+    bucket.push(place as u64)?;
+    let mut table = table.share()?;
+    table.set(key, bucket)?;
+    Ok(table)
+}
+
+fn with_asked(all: &SharedList<Asked>, asked: Asked) -> Result<SharedList<Asked>, Memory>
+    ensures { IfOk result (λ a. a ≡ all.now ++ asked ∷ []) }
+{
+    let mut all = all.share()?;
+    all.push(asked)?;
+    Ok(all)
+}
+
+// Lists the place of a new request that stands so: behind all holders, or at its turn among those that wait.
+fn list_new(
+    holding: &mut Vec<usize>,
+    waiting: &mut Vec<usize>,
+    state: LockState,
+    place: usize,
+    turn: usize,
+) -> Result<(), Memory>
+    requires { turn ≤ length waiting.old.items }
+    ensures holding { OnOk result (holding.new.items ≡ queues.holding_with state place holding.old.items) }
+    ensures waiting { OnOk result (waiting.new.items ≡ queues.waiting_with state place turn waiting.old.items) }
+    ensures err { OnErr result ((holding.new.items ≡ holding.old.items) × (waiting.new.items ≡ waiting.old.items)) }
+{
+    match state {
+        LockState::Waiting => waiting.insert(turn, place)?,
+        LockState::Holding => holding.push(place)?,
+        LockState::Released => {}
+    }
+    Ok(())
 }
 
 // How a new request stands.

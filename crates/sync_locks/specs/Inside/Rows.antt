@@ -1,11 +1,9 @@
 -- Requests by what was asked for and how it stands, and places in them.
-use Rattle.std.specs.Prelude.{ℕ, suc, Bool, true, false, cond, List, [], ◌∷◌, Option, Some, None, option_map, option_and_then, slice_get}
+use Rattle.std.specs.Prelude.{ℕ, suc, Bool, true, false, cond, List, [], ◌∷◌, Option, Some, None, option_map, slice_get}
 use Rattle.books.specs.declared.Request.{Request}
 use Rattle.books.specs.declared.LockState.TheVariants.{Waiting, Holding}
-use Rattle.books.specs.Books.{Text, before}
-use Rattle.books.specs.Laws.{is_first_for}
 use Rattle.books.specs.declared.LockState.{LockState}
-use Rattle.sync_locks.specs.declared.requests.Asked.{Asked}
+use Rattle.sync_locks.specs.declared.asked.Asked.{Asked}
 
 abbrev pub request_of : Asked → LockState → Request
 request_of asked state = record { lock = asked.lock; key = asked.key; rank = asked.rank; state = state }
@@ -40,20 +38,3 @@ state_by false = Waiting
 abbrev pub place : (Request → Bool) → List Request → Option ℕ
 place test [] = None
 place test (r ∷ rs) = cond (test r) (Some 0) (option_map suc (place test rs))
-
--- where the first waiter of a lock stands
-abbrev pub first_place : Text → List Request → Option ℕ
-first_place lock rs = place (is_first_for lock rs) rs
-
--- where the first waiter for the lock of a request stands
-abbrev pub next_place : ℕ → List Request → Option ℕ
-next_place i rs = option_and_then (λ (r : Request). first_place r.lock.text rs) (slice_get rs i)
-
-abbrev pub ranks_sooner : Option Request → Option Request → Bool
-ranks_sooner (Some a) (Some b) = before a.rank b.rank
-ranks_sooner _ _ = false
-
--- of two places the one whose request goes first
-abbrev pub sooner : List Request → Option ℕ → ℕ → ℕ
-sooner rs None later = later
-sooner rs (Some first) later = cond (ranks_sooner (slice_get rs later) (slice_get rs first)) later first

@@ -9,10 +9,10 @@ use Rattle.sync_locks.proofs.requests.Requests.find_in.Goals as goal
 
 pub returns-then-is_by : goal.returns-then-is_by
 returns-then-is_by c =
-    let there : slice_get c.args.bucket.now c.loop-i.i ≡ Some c.unwrap-place.result.now = sym c.get.ensures ∙ ap option_copied c.unwrap-place.ensures in
-    found_here (is_at (is_of (key_by c.args.workflow.now c.args.path.now)) c.args.self.now) c.args.bucket.now c.loop-i.i c.unwrap-place.result.now there (sym c.is_by.ensures ∙ c.if-is_by.true) c.loop-i.invariant
+    let there : slice_get c.args.bucket.now c.loop-i.i ≡ Some c.unwrap.result.now = sym c.get.ensures ∙ ap option_copied c.unwrap.ensures in
+    found_here (is_at (is_of (key_by c.args.workflow.now c.args.path.now)) c.args.self.now) c.args.bucket.now c.loop-i.i c.unwrap.result.now there (sym c.is_by.ensures ∙ c.if-is_by.true) c.loop-i.invariant
 
 pub loop-i-preserved : goal.loop-i-preserved
 loop-i-preserved c =
-    let there : slice_get c.args.bucket.now c.loop-i.i ≡ Some c.unwrap-place.result.now = sym c.get.ensures ∙ ap option_copied c.unwrap-place.ensures in
-    found_later (is_at (is_of (key_by c.args.workflow.now c.args.path.now)) c.args.self.now) c.args.bucket.now c.loop-i.i c.unwrap-place.result.now there (sym c.is_by.ensures ∙ c.if-is_by.false) c.loop-i.invariant
+    let there : slice_get c.args.bucket.now c.loop-i.i ≡ Some c.unwrap.result.now = sym c.get.ensures ∙ ap option_copied c.unwrap.ensures in
+    found_later (is_at (is_of (key_by c.args.workflow.now c.args.path.now)) c.args.self.now) c.args.bucket.now c.loop-i.i c.unwrap.result.now there (sym c.is_by.ensures ∙ c.if-is_by.false) c.loop-i.invariant

@@ -5,9 +5,8 @@ use Rattle.books.specs.declared.LockState.TheVariants.{Holding}
 use Rattle.books.specs.Laws.{is_of}
 use Rattle.sync_locks.specs.Book.{state_in}
 use Rattle.sync_locks.specs.Inside.Rows.{state_of}
-use Rattle.sync_locks.proofs.Ranked.{none_there}
-use Rattle.sync_locks.proofs.Changes.{no_state, request_placed}
-use Rattle.sync_locks.proofs.Places.{within}
+use Rattle.sync_locks.proofs.Places.{none_there}
+use Rattle.sync_locks.proofs.Changes.{no_state, request_placed, within}
 use Rattle.sync_locks.proofs.requests.Requests.holder_of.Goals as goal
 use Rattle.sync_locks.proofs.requests.Requests.holder_of.Goals.{in-Holding, in_default}
 

@@ -3,9 +3,8 @@ use Rattle.std.proofs.Common.{option_map, sym, ◌∙◌, ap}
 use Rattle.std.specs.Prelude.{slice_get}
 use Rattle.books.specs.Laws.{is_of}
 use Rattle.sync_locks.specs.Book.{key_by, standing}
-use Rattle.sync_locks.proofs.Ranked.{none_there}
-use Rattle.sync_locks.proofs.Changes.{request_nowhere, request_placed}
-use Rattle.sync_locks.proofs.Places.{within}
+use Rattle.sync_locks.proofs.Places.{none_there}
+use Rattle.sync_locks.proofs.Changes.{request_nowhere, request_placed, within}
 use Rattle.sync_locks.proofs.Stands.{standing_told}
 use Rattle.sync_locks.proofs.requests.Requests.standing_of.Goals as goal
 

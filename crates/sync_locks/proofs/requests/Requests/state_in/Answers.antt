@@ -2,9 +2,8 @@
 use Rattle.std.proofs.Common.{option_map, sym, ◌∙◌, ap}
 use Rattle.books.specs.Laws.{is_of}
 use Rattle.sync_locks.specs.Inside.Rows.{state_of}
-use Rattle.sync_locks.proofs.Ranked.{none_there}
-use Rattle.sync_locks.proofs.Changes.{request_nowhere, request_placed}
-use Rattle.sync_locks.proofs.Places.{within}
+use Rattle.sync_locks.proofs.Places.{none_there}
+use Rattle.sync_locks.proofs.Changes.{request_nowhere, request_placed, within}
 use Rattle.sync_locks.proofs.requests.Requests.state_in.Goals as goal
 
 pub state-requires : goal.state-requires

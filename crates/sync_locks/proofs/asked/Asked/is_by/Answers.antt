@@ -2,7 +2,7 @@
 use Rattle.std.proofs.Common.{Bool, ◌&&◌, sym, ◌∙◌, ap}
 use Rattle.tree_types.specs.Places.{sels_eq}
 use Rattle.tree_types.proofs.Sels.{sels_tested}
-use Rattle.sync_locks.proofs.requests.Asked.is_by.Goals as goal
+use Rattle.sync_locks.proofs.asked.Asked.is_by.Goals as goal
 
 pub returns-then-eq : goal.returns-then-eq
 returns-then-eq c =

@@ -1,0 +1,88 @@
+//! Looks into lists of places: which of them are for a lock, and where a new waiter goes.
+
+ghost use Rattle.std.specs.Prelude.{◌≡◌, ℕ, ◌<◌, ◌≤◌, ◌==◌, true, false, not, length, MatchOption};
+ghost use Rattle.std.specs.List.{AllWithin, HoldsAt, count_by};
+ghost use Rattle.std.specs.List.Sorted.{IsPartitionedBy, IsPartitionPoint};
+ghost use Rattle.sync_locks.specs.Inside.Queues as queues;
+
+use crate::asked::Asked;
+use crate::ranking::is_before;
+use sharing::SharedList;
+use tree_types::{LockId, Rank};
+
+// Whether the request at a place is for a lock.
+fn is_for(asked: &SharedList<Asked>, place: usize, lock: &LockId) -> bool
+    ensures { result ≡ queues.is_for lock.now.text asked.now place }
+{
+    match asked.get(place) {
+        None => false,
+        Some(asked) => asked.lock.text == lock.text,
+    }
+}
+
+// How many of these places are for a lock.
+pub(crate) fn count_for(asked: &SharedList<Asked>, places: &[usize], lock: &LockId) -> u64
+    ensures { result ≡ count_by (queues.is_for lock.now.text asked.now) places.now }
+{
+    let mut count = 0u64;
+    for place in places {
+        if is_for(asked, *place, lock) {
+            count += 1;
+        }
+    }
+    count
+}
+
+// Which of these places is the first for a lock.
+pub(crate) fn first_for(asked: &SharedList<Asked>, places: &[usize], lock: &LockId) -> Option<usize>
+    ensures { MatchOption result
+        (AllWithin (λ p. queues.is_for lock.now.text asked.now p ≡ false) places.now 0 (length places.now))
+        (λ turn. (turn < length places.now)
+        × HoldsAt (λ p. queues.is_for lock.now.text asked.now p ≡ true) places.now turn
+        × AllWithin (λ p. queues.is_for lock.now.text asked.now p ≡ false) places.now 0 turn) }
+{
+    for turn in 0..places.len() {
+        if is_for(asked, places[turn], lock) {
+            return Some(turn);
+        }
+    }
+    None
+}
+
+// Where among these places one is.
+pub(crate) fn position_of(places: &[usize], place: usize) -> Option<usize>
+    ensures { MatchOption result
+        (AllWithin (λ p. (p == place) ≡ false) places.now 0 (length places.now))
+        (λ i. (i < length places.now) × HoldsAt (λ p. (p == place) ≡ true) places.now i) }
+{
+    for i in 0..places.len() {
+        if places[i] == place {
+            return Some(i);
+        }
+    }
+    None
+}
+
+// Whether a rank goes before that of the request at a place.
+fn overtakes(rank: &Rank, asked: &SharedList<Asked>, place: usize) -> bool
+    ensures { result ≡ queues.overtakes rank.now asked.now place }
+{
+    match asked.get(place) {
+        None => false,
+        Some(asked) => is_before(rank, &asked.rank),
+    }
+}
+
+// The turn of a new waiter, before all that rank behind it.
+pub(crate) fn turn_for(asked: &SharedList<Asked>, places: &[usize], rank: &Rank) -> usize
+    ensures bound { result ≤ length places.now }
+    ensures parted { IsPartitionedBy (λ p. not (queues.overtakes rank.now asked.now p)) places.now
+        → IsPartitionPoint (λ p. not (queues.overtakes rank.now asked.now p) ≡ true)
+        (λ p. not (queues.overtakes rank.now asked.now p) ≡ false) places.now result }
+{
+    places.partition_point(
+        |place: &usize| -> bool
+            ensures { result ≡ not (queues.overtakes rank.entry.now asked.entry.now place.now) }
+        { !overtakes(rank, asked, *place) },
+    )
+}
