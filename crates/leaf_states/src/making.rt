@@ -37,7 +37,7 @@ pub(crate) fn asking(node: Node, want: Want) -> Result<State, Memory>
     ensures { IfOk result (λ state. state ≡ lines.made node (want ∷ []) lines.nothing) }
 {
     let alloc = node.name.allocator();
-    let mut wants = Wants::new(alloc);
+    let mut wants = Wants::with_capacity(alloc, 1)?;
     wants.push(want)?;
     Ok(State::new(node, wants, Below::new(alloc)))
 }

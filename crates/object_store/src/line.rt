@@ -1,6 +1,6 @@
 //! The versions of one object, of which few are kept.
 
-ghost use Rattle.std.specs.Prelude.{◌≡◌, ◌+◌, ◌-◌, ◌<◌, ◌≤◌, ◌++◌, List, [], ◌∷◌, length, slice_get, Some, OnOk, OnErr};
+ghost use Rattle.std.specs.Prelude.{◌≡◌, ◌+◌, ◌-◌, ◌<◌, ◌≤◌, ◌++◌, List, [], ◌∷◌, length, slice_get, Some, OnOk, OnErr, vec_len, vec_capacity};
 
 use base_types::Memory;
 use std::alloc::Global;
@@ -36,6 +36,19 @@ pub(crate) struct Line<C> {
     later: Vec<Made<C>>,
     // How each version but the very first came.
     changes: Vec<Change>,
+}
+
+// Room for one more. Most objects are pods, which have two versions behind their first, so the first room is for two.
+fn reserve_one<T>(items: &mut Vec<T>) -> Result<(), Memory>
+    ensures same { items.new.items ≡ items.old.items }
+    ensures room { OnOk result (vec_len items.new < vec_capacity items.new) }
+{
+    if items.is_empty() {
+        items.try_reserve_exact(2)?;
+    } else {
+        items.try_reserve(1)?;
+    }
+    Ok(())
 }
 
 impl<C> Model for Line<C> {
@@ -134,9 +147,9 @@ impl<C: Drop> Line<C> {
             place: entries.len(),
             tick: made.tick,
         };
-        self.changes.try_reserve(1)?;
+        reserve_one(&mut self.changes)?;
         if self.later.len() + 1 < ROW {
-            self.later.try_reserve(1)?;
+            reserve_one(&mut self.later)?;
             entries.push(entry)?;
             self.later.push_reserved(made);
         } else {

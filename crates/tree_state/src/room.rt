@@ -1,6 +1,6 @@
 //! How many more nodes a tree may have.
 
-ghost use Rattle.std.specs.Prelude.{◌≡◌, ◌≤◌};
+ghost use Rattle.std.specs.Prelude.{◌≡◌, ◌≤◌, OnErr};
 ghost use Rattle.base_types.specs.Limits.{most_nodes};
 ghost use Rattle.tree_state.specs.Counting.{Takes, TakesAll};
 
@@ -36,6 +36,7 @@ impl Room {
     /// Takes the room of one node.
     pub fn take(&mut self) -> Result<(), TreeRefused>
         ensures takes { Takes self.old self.new result }
+        ensures left { OnErr result (self.new ≡ self.old) }
         ensures few { self.new ≤ most_nodes }
     {
         if self.left == 0 {
@@ -45,9 +46,10 @@ impl Room {
         Ok(())
     }
 
-    /// Takes the room of so many nodes, or of none where there is less.
+    /// Takes the room of so many nodes.
     pub fn take_all(&mut self, count: usize) -> Result<(), TreeRefused>
         ensures takes { TakesAll count self.old self.new result }
+        ensures left { OnErr result (self.new ≡ self.old) }
         ensures few { self.new ≤ most_nodes }
     {
         if self.left < count {

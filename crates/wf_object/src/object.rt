@@ -92,7 +92,7 @@ impl WfObject {
         requires { knows self.now.journal fact ≡ false }
         ensures { AddGives self.now fact result }
     {
-        let mut facts = Facts::new(self.valid.manifest().name.allocator());
+        let mut facts = Facts::with_capacity(self.valid.manifest().name.allocator(), 1)?;
         facts.push(fact.copy()?)?;
         let state = self.state.add(fact)?;
         let (state, facts) = close(state, facts)?;

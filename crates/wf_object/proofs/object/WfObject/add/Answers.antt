@@ -20,10 +20,10 @@ returns-in_err-state-2 c =
 pub over-requires : goal.over-requires
 over-requires c =
     close_same c.args.self.now c.self.inside.state c.self.view_is c.args.fact c.in_ok-state.state (c.in_ok-state.ensures (told c.in_ok-state.state)) c.push.new.self
-    (c.in_ok-push.ensures.ok ∙ ap₂ (λ (J : Facts) (f : Fact). J ++ f ∷ []) c.new-facts.ensures c.in_ok-copy.ensures) c.in_ok-state-2.state c.in_ok-state-2.facts c.in_ok-state-2.ensures
+    (c.in_ok-push.ensures.ok ∙ ap₂ (λ (J : Facts) (f : Fact). J ++ f ∷ []) c.in_ok-facts.ensures c.in_ok-copy.ensures) c.in_ok-state-2.state c.in_ok-state-2.facts c.in_ok-state-2.ensures
 
 pub returns : goal.returns
 returns c =
     close_ok c.args.self.now c.self.inside.state c.self.view_is c.args.fact c.in_ok-state.state (c.in_ok-state.ensures (told c.in_ok-state.state)) c.push.new.self
-    (c.in_ok-push.ensures.ok ∙ ap₂ (λ (J : Facts) (f : Fact). J ++ f ∷ []) c.new-facts.ensures c.in_ok-copy.ensures) c.in_ok-state-2.state c.in_ok-state-2.facts c.in_ok-state-2.ensures
+    (c.in_ok-push.ensures.ok ∙ ap₂ (λ (J : Facts) (f : Fact). J ++ f ∷ []) c.in_ok-facts.ensures c.in_ok-copy.ensures) c.in_ok-state-2.state c.in_ok-state-2.facts c.in_ok-state-2.ensures
     c.requires c.in_ok-over.field-0 c.in_ok-over.ensures
