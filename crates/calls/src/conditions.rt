@@ -1,64 +1,8 @@
-//! Conditions, and what tasks depend on (`when_expr`, `depends_expr`).
+//! Where the faults of conditions are, and what tasks depend on (`when_expr`, `depends_expr`).
 
-use crate::common::repeated;
-use base_types::TryCopy;
-use depends_expr::law::depends_says;
-use depends_expr::{DependsRefused, TaskResult, parse_depends};
-use std::test::Fail;
-use when_expr::law::when_says;
-use when_expr::{NotNumbers, WhenRefused, parse_when};
-
-const NO_NUMBERS: Result<bool, NotNumbers> = Err(NotNumbers);
-
-/// Words are compared as numbers where both are whole numbers of 64 bits, and quoted text never is.
-#[test]
-fn tells_conditions(rt: HostRuntime) -> Result<(), Fail> {
-    for (text, truth) in [
-        (" true\t", Ok(true)),
-        ("false", Ok(false)),
-        ("a == a", Ok(true)),
-        ("a==b", Ok(false)),
-        ("a != b", Ok(true)),
-        ("1 == 01", Ok(true)),
-        ("01 != 1", Ok(false)),
-        ("1 == '01'", Ok(false)),
-        ("1 == '1'", Ok(true)),
-        ("+1 == 1", Ok(false)),
-        ("-0 == 0", Ok(true)),
-        ("'a b' == \"a b\"", Ok(true)),
-        ("'' != a", Ok(true)),
-        ("é == é", Ok(true)),
-        ("true == false", Ok(false)),
-        ("1 < 2", Ok(true)),
-        ("2 < 2", Ok(false)),
-        ("2 <= 2", Ok(true)),
-        ("3 <= 2", Ok(false)),
-        ("-1 > -2", Ok(true)),
-        ("2 > 2", Ok(false)),
-        ("2>=2", Ok(true)),
-        ("2 >= 3", Ok(false)),
-        ("9223372036854775807 > -9223372036854775808", Ok(true)),
-        ("9223372036854775808 > 1", NO_NUMBERS),
-        ("1 > -9223372036854775809", NO_NUMBERS),
-        ("9223372036854775808 == 9223372036854775808", Ok(true)),
-        ("'1' < 2", NO_NUMBERS),
-        ("1 < a", NO_NUMBERS),
-        ("true || a < 1", Ok(true)),
-        ("false || a < 1", NO_NUMBERS),
-        ("false && a < 1", Ok(false)),
-        ("a < 1 && false", NO_NUMBERS),
-        ("true || true && false", Ok(true)),
-        ("(true || true) && false", Ok(false)),
-        ("! true || true", Ok(true)),
-        ("!( true || true )", Ok(false)),
-        ("!!true", Ok(true)),
-    ] {
-        let when = parse_when(rt.alloc(), text)?;
-        assert!(rt; when_expr::eval(&when.copy()?) == truth, "{text}");
-    }
-    when_says();
-    Ok(())
-}
+use depends_expr::{DependsRefused, TaskResult, eval, parse_depends};
+use std::alloc::Global;
+use when_expr::{WhenRefused, parse_when};
 
 /// A fault is at the byte at which the longest front ends that some condition begins with.
 #[test]
@@ -139,9 +83,19 @@ const ALL_FAILED: TaskResult = TaskResult {
     ..NOTHING
 };
 
+/// What a text of two names says, the one that stands first with the first of two results.
+fn says(alloc: Global, text: &str, first: TaskResult, second: TaskResult) -> Option<bool> {
+    let depends = parse_depends(alloc, text).ok()?;
+    if depends.names() == 2 {
+        Some(eval(&depends, &[first, second]))
+    } else {
+        None
+    }
+}
+
 /// A bare name is Succeeded, Skipped or Daemoned, and no task is daemoned.
 #[test]
-fn tells_depends(rt: HostRuntime) -> Result<(), Fail> {
+fn tells_depends(rt: HostRuntime) {
     for (text, a, b, truth) in [
         ("A && B", SUCCEEDED, SKIPPED, true),
         ("A && B", SUCCEEDED, FAILED, false),
@@ -161,13 +115,8 @@ fn tells_depends(rt: HostRuntime) -> Result<(), Fail> {
         ("A || B && A.Failed", SUCCEEDED, FAILED, true),
         ("(A || B) && A.Failed", SUCCEEDED, FAILED, false),
     ] {
-        let depends = parse_depends(rt.alloc(), text)?.copy()?;
-        assert!(rt; depends.names() == 2, "{text}");
-        assert_eq!(rt; (depends.name(0), depends.name(1)), ("A", "B"), "{text}");
-        assert_eq!(rt; depends_expr::eval(&depends, &[a, b]), truth, "{text}");
+        assert!(rt; says(rt.alloc(), text, a, b) == Some(truth), "{text}");
     }
-    depends_says();
-    Ok(())
 }
 
 #[test]
@@ -191,39 +140,4 @@ fn tells_faults_of_depends(rt: HostRuntime) {
         let refused = parse_depends(rt.alloc(), text).err();
         assert!(rt; refused == Some(DependsRefused::Bad { place }), "{text}");
     }
-}
-
-/// At most 64 `!` and `(` are open at once, and a name has at most 128 bytes.
-#[test]
-fn keeps_limits_of_conditions(rt: HostRuntime) -> Result<(), Fail> {
-    let alloc = rt.alloc();
-    for (open, close, depth, bad) in [
-        ("!", "", 64, None),
-        ("!", "", 65, Some(64)),
-        ("(", ")", 64, None),
-        ("(", ")", 65, Some(64)),
-    ] {
-        let front = repeated(alloc, open, depth)?;
-        let back = repeated(alloc, close, depth)?;
-        let when = format!(in alloc; "{front}true{back}")?;
-        let refused = bad.map(|place| WhenRefused::Bad { place });
-        assert!(rt;
-            parse_when(alloc, when.as_str()).err() == refused,
-            "{open} {depth}"
-        );
-        let depends = format!(in alloc; "{front}A{back}")?;
-        let refused = bad.map(|place| DependsRefused::Bad { place });
-        assert!(rt;
-            parse_depends(alloc, depends.as_str()).err() == refused,
-            "{open} {depth}"
-        );
-    }
-    for (length, refused) in [(128, None), (129, Some(DependsRefused::Bad { place: 128 }))] {
-        let name = repeated(alloc, "n", length)?;
-        assert!(rt;
-            parse_depends(alloc, name.as_str()).err() == refused,
-            "{length}"
-        );
-    }
-    Ok(())
 }

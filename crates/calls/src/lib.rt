@@ -1,19 +1,28 @@
-//! Tests alone: the public calls of the crates of texts, run with ample memory against values from outside; and what the
-//! tables of the other crates of tests need.
+//! Tests alone: public calls of the lower crates with values that no document shows, run with ample memory against values from
+//! outside.
 #![tactic(auto)]
 
-mod common;
+#[cfg(test)]
+mod cache;
 #[cfg(test)]
 mod conditions;
 #[cfg(test)]
 mod edge;
 #[cfg(test)]
+mod facts;
+#[cfg(test)]
+mod histories;
+#[cfg(test)]
+mod lists;
+#[cfg(test)]
+mod locks;
+#[cfg(test)]
 mod names;
+#[cfg(test)]
+mod orders;
+#[cfg(test)]
+mod prints;
 #[cfg(test)]
 mod tags;
 #[cfg(test)]
-mod texts;
-#[cfg(test)]
 mod times;
-
-pub use common::repeated;

@@ -5,13 +5,12 @@ ghost use Rattle.run_texts.specs.RunTexts.{counts_of};
 ghost use Rattle.law.specs.Contents.{Story, flow_of};
 ghost use Rattle.run_texts.specs.Inside.Counting.{in_phase, with_standing, with_flow, with_entry, counts_over};
 
-use crate::finding::workflow_at;
 use base_types::{Memory, Text};
 use io_edge::Outage;
 use object_store::Store;
 use tree_print::Counts;
 use tree_types::{Entry, Phase};
-use wf_object::{WfContent, WfObject};
+use wf_object::{WfContent, WfObject, workflow_at};
 
 // No memory holds so much that a sum passes the bound of a count.
 fn raise(count: &mut u64, by: u64) -> Result<(), Memory>

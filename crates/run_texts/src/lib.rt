@@ -2,7 +2,6 @@
 #![tactic(auto)]
 
 mod counting;
-mod finding;
 mod large;
 mod shown;
 mod texts;

@@ -4,14 +4,13 @@ ghost use Rattle.std.specs.Prelude.{◌≡◌, ◌++◌, IfOk, OnOk};
 ghost use Rattle.run_texts.specs.RunTexts as texts;
 ghost use Rattle.run_texts.specs.Inside.Trees.{text_by};
 
-use crate::finding::workflow_at;
 use base_types::{Bytes, Memory, Text};
 use io_edge::Outage;
 use object_store::Store;
 use std::alloc::Global;
 use tree_print::print_tree;
 use tree_types::Entry;
-use wf_object::{WfContent, WfObject};
+use wf_object::{WfContent, WfObject, workflow_at};
 
 fn tree_text(alloc: Global, name: &Text, workflow: &WfObject) -> Result<Bytes, Memory>
     ensures { IfOk result (λ text. text ≡ texts.flow_text name.now workflow.now) }

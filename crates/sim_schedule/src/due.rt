@@ -11,7 +11,6 @@ ghost use Rattle.wf_object.specs.Documents.{law_of, command_of};
 ghost use Rattle.sim_schedule.specs.Inside.Jobs.{given};
 ghost use Rattle.sim_schedule.specs.Inside.Rosters.{IsOf, ticks_of};
 
-use crate::finding::{pod_at, workflow_at};
 use crate::jobs::Job;
 use crate::roster::Roster;
 use base_types::{Memory, Text};
@@ -19,7 +18,7 @@ use io_edge::Outage;
 use item_reader::Command;
 use object_store::Store;
 use wf_bundle::Document;
-use wf_object::{PodObject, WfContent};
+use wf_object::{PodObject, WfContent, pod_at, workflow_at};
 
 // The sooner of two ticks, where there are any.
 fn sooner(one: Option<u64>, other: Option<u64>) -> Option<u64>

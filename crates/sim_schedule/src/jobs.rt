@@ -7,13 +7,12 @@ ghost use Rattle.next_step.specs.Rounds.{submitted_by, created_by, if_unfinished
 ghost use Rattle.run_laws.specs.Pods.{still_open};
 ghost use Rattle.sim_schedule.specs.Inside.Jobs.{given, flows_in, pods_in, is_open};
 
-use crate::finding::pod_at;
 use base_types::{List, Memory, Text, TryCopy};
 use io_edge::Outage;
 use object_store::Store;
 use std::alloc::Global;
 use tree_types::Entry;
-use wf_object::WfContent;
+use wf_object::{WfContent, pod_at};
 
 /// A worker's job on a workflow, or a runner's on a pod.
 #[derive(Debug, Drop)]

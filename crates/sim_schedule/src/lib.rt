@@ -3,7 +3,6 @@
 
 mod due;
 mod end;
-mod finding;
 mod jobs;
 mod roster;
 mod round;

@@ -13,7 +13,7 @@ use tree_types::{Path, Phase, Tree, Wants};
 use wf_manifest::Manifest;
 
 /// A tree, what its nodes ask for, the tasks that may begin, and the phase of its workflow; each list in tree order.
-#[derive(Drop)]
+#[derive(Debug, Drop)]
 pub struct Evaluated {
     pub tree: Tree,
     pub wants: Wants,

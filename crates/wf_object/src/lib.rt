@@ -4,6 +4,7 @@
 mod carrying;
 mod closing;
 mod content;
+mod finding;
 mod following;
 pub mod laws;
 mod object;
@@ -11,6 +12,7 @@ mod pod;
 mod start;
 
 pub use content::WfContent;
+pub use finding::{pod_at, workflow_at};
 pub use object::WfObject;
 pub use pod::PodObject;
 pub use start::starts;
