@@ -1,0 +1,5 @@
+pub mod AtPlace
+pub mod Digits
+pub mod Found
+pub mod OneNumber
+pub mod OneValue

@@ -1,0 +1,2 @@
+pub mod ItemAt
+pub use Rattle.fanout.specs.Items
