@@ -14,7 +14,7 @@ ghost use Rattle.dag_board.specs.Inside.Parts.{part_then, parts_from, tags_from}
 
 use crate::Board;
 use base_types::{Memory, TryCopy};
-use call_nodes::{computed_node, copy_place, task_place};
+use call_nodes::{bare, computed_node, copy_place, task_place};
 use dag_plan::DagPlan;
 use dag_template::{is_doomed, phase_seen, stands_at};
 use growth::laws::rounds_settle;
@@ -22,7 +22,7 @@ use meaning::Place;
 use scopes::{Scope, Tags};
 use std::alloc::Global;
 use tree_state::{Below, Shared, State};
-use tree_types::{Kind, Node, Path, Phase, Wants};
+use tree_types::{Kind, Node, Note, Path, Phase, Wants};
 use wf_manifest::{Dag, OutputDecls, Task};
 
 // How a DAG ends: whether it is doomed, and its phase.
@@ -152,8 +152,13 @@ impl Board {
         requires fits { Fits dag.now self.now }
         ensures { IfOk result (HasNode dag.now plan.now self.now place.now scope.now declared.now phase) }
     {
+        let at = copy_place(place)?;
+        // Only a DAG that Succeeded has outputs, so that nothing sees the tags of its tasks before.
+        let Phase::Succeeded = phase else {
+            return Ok(bare(at, Kind::DAG, phase, Note::None));
+        };
         let inner = self.last_scope(alloc, dag, plan, scope)?;
-        computed_node(copy_place(place)?, Kind::DAG, phase, &inner, declared)
+        computed_node(at, Kind::DAG, phase, &inner, declared)
     }
 
     /// What the DAG makes at a place in a scope, once all its tasks were gone through.

@@ -79,7 +79,7 @@ same_number : (i : ℕ) → (i == i) ≡ true
 same_number i = eq-eqb i i refl
 
 -- whether a task's own call is the one that is looked for
-is_sought : (at : Sels) (i j : ℕ) (m : Made) → m.own.node.path.sels ≡ at ++ task_sel j ∷ [] → is_of_task (length at) i m ≡ (j == i)
+pub is_sought : (at : Sels) (i j : ℕ) (m : Made) → m.own.node.path.sels ≡ at ++ task_sel j ∷ [] → is_of_task (length at) i m ≡ (j == i)
 is_sought at i j m own = ap (λ (p : Sels). task_is i (slice_get p (length at))) own ∙ ap (task_is i) (last_sel at (task_sel j))
 
 module _ (doomed : Bool) (place : Place) where

@@ -4,3 +4,4 @@ pub mod Found
 pub mod Stays
 pub mod Begun
 mod Told
+pub mod RunsOn

@@ -41,7 +41,7 @@ use Rattle.growth.proofs.Keeping.{ending_ends}
 abbrev pub Here : Place → Made → Type 0
 Here p b = b.own.node.path.sels ≡ p.sels
 
-ended : (p : Place) (k : Kind) (ph : Phase) (n : Note) (o : Outputs) (d : Ending) → (ended_node p k ph n o d).path.sels ≡ p.sels
+pub ended : (p : Place) (k : Kind) (ph : Phase) (n : Note) (o : Outputs) (d : Ending) → (ended_node p k ph n o d).path.sels ≡ p.sels
 ended p k ph n o d = ap (λ (x : Path). x.sels) (ending_ends p k ph n o d).at.path
 
 -- ---- bodies

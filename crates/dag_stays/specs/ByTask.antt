@@ -1,5 +1,5 @@
 -- What the tasks of a DAG made, found among the calls below its node.
-use Rattle.std.specs.Prelude.{ℕ, zero, suc, ◌==◌, List, [], ◌∷◌, Bool, false, Option, Some, None, if◌then◌else◌, slice_get}
+use Rattle.std.specs.Prelude.{ℕ, zero, suc, ◌==◌, nat_lt, List, [], ◌∷◌, Bool, false, Option, Some, None, if◌then◌else◌, slice_get}
 use Rattle.tree_types.specs.declared.path.Sel.{Sel}
 use Rattle.tree_types.specs.declared.path.Sel.TheVariants.{Task as task_sel}
 use Rattle.meaning.specs.Lines.{Made}
@@ -11,6 +11,14 @@ task_is i _ = false
 -- the node stands at task i below a path of so many selectors
 abbrev pub is_of_task : ℕ → ℕ → Made → Bool
 is_of_task depth i m = task_is i (slice_get m.own.node.path.sels depth)
+
+abbrev pub task_before : ℕ → Option Sel → Bool
+task_before i (Some (task_sel n)) = nat_lt n i
+task_before i _ = false
+
+-- the node stands at a task in front of task i
+abbrev pub is_in_front : ℕ → ℕ → Made → Bool
+is_in_front depth i m = task_before i (slice_get m.own.node.path.sels depth)
 
 abbrev pub task_if : ℕ → ℕ → Option Made → Option Made
 task_if depth i None = None

@@ -5,4 +5,5 @@ mod sought;
 mod staying;
 mod were;
 
+pub use sought::call_of_task;
 pub use were::Were;

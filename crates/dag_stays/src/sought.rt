@@ -1,6 +1,7 @@
 //! What the tasks of a DAG made, found among the calls below its node.
 
-ghost use Rattle.std.specs.Prelude.{◌≡◌, slice_get, IfOk};
+ghost use Rattle.std.specs.Prelude.{◌≡◌, true, length, slice_get, Some, IfOk, IfSome};
+ghost use Rattle.tree_state.specs.Replacing.{call_at};
 ghost use Rattle.dag_stays.specs.ByTask as spec;
 
 use base_types::{List, Memory, TryCopy};
@@ -16,6 +17,44 @@ fn is_of_task(call: &State, depth: usize, i: usize) -> bool
         Some(Sel::Task(n)) => *n as usize == i,
         _ => false,
     }
+}
+
+// Whether a call is a task in front of the one at a position.
+fn is_in_front(call: &State, depth: usize, i: usize) -> bool
+    ensures { result ≡ spec.is_in_front depth i call.now }
+{
+    match call.node().path.sels.as_slice().get(depth) {
+        Some(Sel::Task(n)) => (*n as usize) < i,
+        _ => false,
+    }
+}
+
+/// What the task at position `j` of a DAG made, and where it stands among the calls below the DAG's node. As the calls stand in
+/// the order of their tasks, it is looked for by halves.
+pub fn call_of_task(dag: &State, j: u32) -> Option<(usize, &State)>
+    ensures call { IfSome result (λ found. call_at dag.now.parts found.0 ≡ Some found.1.now) }
+    ensures task { let depth = length dag.now.own.node.path.sels in
+        IfSome result (λ found. spec.is_of_task depth j found.1.now ≡ true) }
+{
+    let depth = dag.node().path.sels.len();
+    let mut low: usize = 0;
+    let mut high = j as usize + 1;
+    while low < high {
+        let middle = low + (high - low) / 2;
+        let Some(call) = dag.call_at(middle) else {
+            high = middle;
+            continue;
+        };
+        if is_of_task(call, depth, j as usize) {
+            return Some((middle, call));
+        }
+        if is_in_front(call, depth, j as usize) {
+            low = middle + 1;
+        } else {
+            high = middle;
+        }
+    }
+    None
 }
 
 // The call at a position, if it is the task.

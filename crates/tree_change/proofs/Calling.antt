@@ -106,18 +106,14 @@ module _ (m : Manifest) (A B : Answers) (g : Scope) where
     one_was single = (goes_on left prefix place scope c old deep is runs).1 ∙ ap (each_made m B g (calls m B g (left - 1)) prefix place scope c) single
 
     -- a looped call
-    pub looped_was : (l : Loop) (ds : List Data) → c.each ≡ Some l → items scope l ≡ Ok ds → old ≡ looped m B g (calls m B g (left - 1)) prefix place scope c (Ok ds)
-    looped_was l ds each said =
-        (goes_on left prefix place scope c old deep is runs).1
-        ∙ ap (each_made m B g (calls m B g (left - 1)) prefix place scope c) each
-        ∙ ap (looped m B g (calls m B g (left - 1)) prefix place scope c) said
+    pub looped_was : (l : Loop) → c.each ≡ Some l → old ≡ looped m B g (calls m B g (left - 1)) prefix place scope c (items scope l)
+    looped_was l each = (goes_on left prefix place scope c old deep is runs).1 ∙ ap (each_made m B g (calls m B g (left - 1)) prefix place scope c) each
 
-    pub looped_again : (l : Loop) (ds : List Data) (before after : ℕ) (r : Result Made TreeRefused) → c.each ≡ Some l → items scope l ≡ Ok ds →
-        Gives before after r (looped m A g (calls m A g (left - 1)) prefix place scope c (Ok ds)) → Gives before after r (calls m A g left prefix place scope c)
-    looped_again l ds before after r each said given =
+    pub looped_again : (l : Loop) (before after : ℕ) (r : Result Made TreeRefused) → c.each ≡ Some l →
+        Gives before after r (looped m A g (calls m A g (left - 1)) prefix place scope c (items scope l)) → Gives before after r (calls m A g left prefix place scope c)
+    looped_again l before after r each given =
         goes_on_again left prefix place scope c before after r deep (goes_on left prefix place scope c old deep is runs).0
-        (subst (λ (o : Option Loop). Gives before after r (each_made m A g (calls m A g (left - 1)) prefix place scope c o)) (sym each)
-        (subst (λ (f : Found (List Data)). Gives before after r (looped m A g (calls m A g (left - 1)) prefix place scope c f)) (sym said) given))
+        (subst (λ (o : Option Loop). Gives before after r (each_made m A g (calls m A g (left - 1)) prefix place scope c o)) (sym each) given)
 
 -- a template that was entered, in a scope with the values of its own
 pub template_was : (m : Manifest) (B : Answers) (g : Scope) (left : ℕ) (label : List ℕ) (place : Place) (scope inner : Scope) (name : List ℕ) (given : List Argument) (exit : Option Hook) (t : Template) (old : Made) →

@@ -1,5 +1,5 @@
 -- What one recorded fact changes of a call that runs, form by form.
-use Rattle.std.proofs.Common.{◌≡◌, ℕ, zero, suc, ◌+◌, ◌<◌, List, [], ◌∷◌, ◌++◌, true, false, Option, Some, None, Ok, Err, codes, refl, sym, ap, ◌∙◌, subst, arith}
+use Rattle.std.proofs.Common.{◌≡◌, ℕ, zero, suc, ◌+◌, ◌<◌, List, [], ◌∷◌, ◌++◌, Bool, true, false, Option, Some, None, Ok, Err, codes, refl, sym, ap, ◌∙◌, subst, arith}
 use Rattle.std.specs.Prelude.{slice_get, is_some, ◌&&◌}
 use Rattle.std.specs.List.{list_all}
 use Rattle.std.proofs.Common.{ne_eqb}
@@ -30,7 +30,7 @@ use Rattle.serde_json.specs.Data.{Data}
 use Rattle.meaning.specs.declared.lines.Place.{Place}
 use Rattle.meaning.specs.Answers.{Sels, Answers}
 use Rattle.meaning.specs.Lines.{numbered, Made, row_of, row_in, no_outputs, all_finished}
-use Rattle.meaning.specs.Pods.{outputs_of, pod_by, pod_made}
+use Rattle.meaning.specs.Pods.{Attempts, outputs_of, pod_by, pod_made, attempts, retry_node, retry_made}
 use Rattle.meaning.specs.Outputs.{completed}
 use Rattle.meaning.specs.Steps.{Caller, members, member_place, makings, group_made, group_place, steps_made}
 use Rattle.meaning.specs.Dags.{dag_made}
@@ -48,11 +48,16 @@ use Rattle.tree_change.proofs.Opening.{is_open, open_phase, open_made, plain_mad
 use Rattle.tree_change.proofs.Rows.{row_other, numbered_at, making, makings_are, group_other, groups_other, steps_other, unfinished_row, loop_other}
 
 -- a pod's node stands at its place
-pod_at : (place : Place) (ds : List OutputDecl) (o : Option (Note × Outcome)) → At place (pod_by place ds o).own.node
+pub pod_at : (place : Place) (ds : List OutputDecl) (o : Option (Note × Outcome)) → At place (pod_by place ds o).own.node
 pod_at place ds None = node_at place kind.Pod Running note.None no_outputs
 pod_at place ds (Some o) = (ending_ends place kind.Pod o.1.phase o.0 (outputs_of o.1) (completed ds (outputs_of o.1))).at
 
-at_place : (place : Place) (n : Node) → At place n → place_of n ≡ place
+-- with a retry too
+retry_at : (place : Place) (a : Attempts) (over : Bool) → place_of (retry_node place a over) ≡ place
+retry_at place a true = refl
+retry_at place a false = refl
+
+pub at_place : (place : Place) (n : Node) → At place n → place_of n ≡ place
 at_place place n at = λ i. record { sels = (at.path i).sels; name = at.name i; depth = at.depth i }
 
 -- the body of a template by its form, whatever its retry
@@ -173,6 +178,18 @@ module _ (m : Manifest) (A B : Answers) (changed : Sels) (same : SameBut A B cha
   dag_were place inner t d old is runs form =
       (was_body place inner t old is runs).1 ∙ ap (body_by B other place inner t.outputs t.retry) form ∙ dag_body B other place inner t.outputs t.retry d
 
+  -- a template of a DAG that runs on
+  pub dag_template_changes : (place : Place) (inner : Scope) (t : Template) (d : Dag) (old new : Made) →
+      old ≡ template_made B other place inner t → IsRunning old → t.body ≡ body.Dag d → sels_eq place.sels changed ≡ false →
+      (old ≡ dag_made B other place inner t.outputs d → (new ≡ dag_made A called place inner t.outputs d) × IsRunning new) →
+      template_made A called place inner t ≡ new
+  dag_template_changes place inner t d old new is runs form apart change =
+      let was = was_body place inner t old is runs in
+      let changed_so = change (dag_were place inner t d old is runs form) in
+      let now : body_made A called place inner t ≡ new = ap (body_by A called place inner t.outputs t.retry) form ∙ dag_body A called place inner t.outputs t.retry d ∙ sym changed_so.0 in
+      let running : IsRunning (body_made A called place inner t) = ap (λ (b : Made). b.own.node.phase) now ∙ changed_so.1 in
+      open_made A called place inner t (open_alike A B place inner t (same.granted place.sels apart) (same.memo place.sels apart) was.0) running ∙ now
+
   -- a DAG without a cache, above the change
   pub dag_template_again : (place : Place) (inner : Scope) (t : Template) (d : Dag) (old : Made) →
       old ≡ template_made B other place inner t → IsRunning old → t.body ≡ body.Dag d → t.memoize ≡ None → sels_eq place.sels changed ≡ false →
@@ -205,6 +222,21 @@ module _ (m : Manifest) (A B : Answers) (changed : Sels) (same : SameBut A B cha
       plain_made A called place inner t plain (ap (λ (p : Place). unlocked (A.granted p.sels) t.lock) (sym here) ∙ granted)
       ∙ by A called
       ∙ ap (λ (p : Place). pod_made A p t.outputs) (sym here)
+      ∙ now
+
+  -- a pod with a retry and without a cache, past its lock
+  pub retried_template_changes : (place : Place) (inner : Scope) (t : Template) (r : Retry) (old z : Made) →
+      old ≡ template_made B other place inner t → IsRunning old → t.body ≡ body.Pod → t.retry ≡ Some r → t.memoize ≡ None →
+      unlocked (A.granted (place_of old.own.node).sels) t.lock ≡ true → retry_made A (place_of old.own.node) t.outputs r ≡ z →
+      template_made A called place inner t ≡ z
+  retried_template_changes place inner t r old z is runs form again plain granted now =
+      let was = was_body place inner t old is runs in
+      let by : (X : Answers) (f : Caller) → body_made X f place inner t ≡ retry_made X place t.outputs r = λ X f. ap (λ (b : Body). body_by X f place inner t.outputs t.retry b) form ∙ ap (λ (o : Option Retry). body_by X f place inner t.outputs o body.Pod) again in
+      let tries : Attempts = attempts B place t.outputs r in
+      let here : place_of old.own.node ≡ place = ap (λ (b : Made). place_of b.own.node) (was.1 ∙ by B other) ∙ retry_at place tries tries.over in
+      plain_made A called place inner t plain (ap (λ (p : Place). unlocked (A.granted p.sels) t.lock) (sym here) ∙ granted)
+      ∙ by A called
+      ∙ ap (λ (p : Place). retry_made A p t.outputs r) (sym here)
       ∙ now
 
   -- ---- a call without a loop, or one item

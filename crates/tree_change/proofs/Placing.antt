@@ -1,5 +1,5 @@
 -- One call in the place of another, while all others stay.
-use Rattle.std.proofs.Common.{◌≡◌, ℕ, zero, suc, ◌+◌, ◌-◌, ◌<◌, ◌≤◌, List, [], ◌∷◌, ◌++◌, length, false, Some, Ok, Err, codes, refl, sym, ap, ◌∙◌, arith}
+use Rattle.std.proofs.Common.{◌≡◌, ℕ, zero, suc, ◌+◌, ◌-◌, ◌<◌, ◌≤◌, List, [], ◌∷◌, ◌++◌, length, false, Option, Some, Ok, Err, codes, refl, sym, ap, ◌∙◌, arith}
 use Rattle.std.specs.Prelude.{slice_get, map}
 use Rattle.serde_json.specs.Data.{Data}
 use Rattle.tree_types.specs.declared.path.Sel.TheVariants.{Step, Item}
@@ -7,7 +7,10 @@ use Rattle.tree_types.specs.declared.phase.Phase.TheVariants.{Running}
 use Rattle.tree_types.specs.Phases.{is_succeeded}
 use Rattle.wf_manifest.specs.declared.calls.Call.{Call}
 use Rattle.wf_manifest.specs.declared.manifest.Manifest.{Manifest}
-use Rattle.scopes.specs.Substitution.{Scope}
+use Rattle.wf_manifest.specs.declared.calls.Loop.{Loop}
+use Rattle.scopes.specs.Substitution.{Found, Scope}
+use Rattle.fanout.specs.Items.{items}
+use Rattle.tree_change.specs.Inside.OneItem.{IsItemAt}
 use Rattle.meaning.specs.declared.lines.Place.{Place}
 use Rattle.meaning.specs.Answers.{Sels, Answers}
 use Rattle.meaning.specs.Lines.{Parts, nothing, call, may_begin, asks, Made, row_of, row_in, all_finished}
@@ -77,8 +80,27 @@ module _ (m : Manifest) (X : Answers) (g : Scope) (f : Caller) (prefix : List �
   looped_is [] i x found = absurd (cc)
   looped_is (d ∷ ds) i x found = refl
 
-module _ (m : Manifest) (A B : Answers) (g : Scope) (left : ℕ) (prefix : List ℕ) (place : Place) (scope : Scope) (c : Call) (ds : List Data) (i : ℕ) (rest : Sels) (same : SameBut A B (place.sels ++ Item i ∷ rest)) (old one : Made)
-    (at : call_at old.parts i ≡ Some one) (was : old ≡ looped m B g (calls m B g left) prefix place scope c (Ok ds)) where
+-- an item that was found is the one that stands there
+pub item_told : (scope : Scope) (l : Loop) (place : ℕ) (x : Data) (found : Option Data) → found ≡ Some x →
+    ((all : List Data) (y : Data) → items scope l ≡ Ok all → slice_get all place ≡ Some y → found ≡ Some y) → IsItemAt scope l place x
+item_told scope l place x found is told = λ all y listed stands. some_same x y found is (told all y listed stands)
+
+-- items that made something are listed
+are_listed : (m : Manifest) (X : Answers) (g : Scope) (f : Caller) (prefix : List ℕ) (place : Place) (scope : Scope) (c : Call) (said : Found (List Data)) (old one : Made) (i : ℕ) →
+    call_at old.parts i ≡ Some one → old ≡ looped m X g f prefix place scope c said → (ds : List Data) × (said ≡ Ok ds)
+are_listed m X g f prefix place scope c (Ok ds) old one i at was = (ds, refl)
+are_listed m X g f prefix place scope c (Err fault) old one i at was =
+    let none : call_at (looped m X g f prefix place scope c (Err fault)).parts i ≡ Some one = sym (ap (λ (b : Made). call_at b.parts i) was) ∙ at in
+    absurd (cc none)
+
+module _ (m : Manifest) (A B : Answers) (g : Scope) (left : ℕ) (prefix : List ℕ) (place : Place) (scope : Scope) (c : Call) (l : Loop) (i : ℕ) (rest : Sels) (same : SameBut A B (place.sels ++ Item i ∷ rest)) (old one : Made)
+    (at : call_at old.parts i ≡ Some one) (was : old ≡ looped m B g (calls m B g left) prefix place scope c (items scope l)) where
+  all : (ds : List Data) × (items scope l ≡ Ok ds)
+  all = are_listed m B g (calls m B g left) prefix place scope c (items scope l) old one i at was
+
+  abbrev ds : List Data
+  ds = all.0
+
   abbrev mine : ℕ → Data → Made
   mine = item_made m A g (calls m A g left) prefix place scope c
 
@@ -92,10 +114,16 @@ module _ (m : Manifest) (A B : Answers) (g : Scope) (left : ℕ) (prefix : List 
   ys = items_made m B g (calls m B g left) prefix place scope c ds
 
   abbrev whole : Made
-  whole = looped m A g (calls m A g left) prefix place scope c (Ok ds)
+  whole = looped m A g (calls m A g left) prefix place scope c (items scope l)
+
+  whole_is : whole ≡ looped m A g (calls m A g left) prefix place scope c (Ok ds)
+  whole_is = ap (looped m A g (calls m A g left) prefix place scope c) all.1
+
+  was_so : old ≡ looped m B g (calls m B g left) prefix place scope c (Ok ds)
+  was_so = was ∙ ap (looped m B g (calls m B g left) prefix place scope c) all.1
 
   parts_were : old.parts ≡ row_of ys
-  parts_were = ap (λ (b : Made). b.parts) was ∙ looped_parts m B g (calls m B g left) prefix place scope c ds
+  parts_were = ap (λ (b : Made). b.parts) was_so ∙ looped_parts m B g (calls m B g left) prefix place scope c ds
 
   stood : call_at (row_of ys) i ≡ Some one
   stood = sym (ap (λ (p : Parts). call_at p i) parts_were) ∙ at
@@ -103,10 +131,10 @@ module _ (m : Manifest) (A B : Answers) (g : Scope) (left : ℕ) (prefix : List 
   there : (x : Data) × (slice_get ds i ≡ Some x)
   there = none_past theirs 0 i ds one stood
 
-  pub item_low : i < length ds
-  item_low = is_low ds i there.0 there.1
+  module _ (x : Data) (is_item : IsItemAt scope l i x) where
+    found : slice_get ds i ≡ Some x
+    found = there.1 ∙ ap Some (sym (is_item ds there.0 all.1 there.1))
 
-  module _ (x : Data) (found : slice_get ds i ≡ Some x) where
     -- what the item made
     pub item_had : one ≡ theirs i x
     item_had = item_stood m B g left prefix place scope c ds i one x stood found
@@ -115,7 +143,10 @@ module _ (m : Manifest) (A B : Answers) (g : Scope) (left : ℕ) (prefix : List 
     rows = items_other m A B g (place.sels ++ Item i ∷ rest) same left prefix place scope c i rest ds (mine i x) refl (λ y there_too. ap (λ (d : Data). mine i d) (some_same y x (slice_get ds i) there_too found))
 
     parts_now : whole.parts ≡ replaced old.parts i (mine i x)
-    parts_now = looped_parts m A g (calls m A g left) prefix place scope c ds ∙ rows ∙ ap (λ (p : Parts). replaced p i (mine i x)) (sym parts_were)
+    parts_now = ap (λ (b : Made). b.parts) whole_is ∙ looped_parts m A g (calls m A g left) prefix place scope c ds ∙ rows ∙ ap (λ (p : Parts). replaced p i (mine i x)) (sym parts_were)
+
+    pub items_fail : (before after : ℕ) (e : TreeRefused) → TakesAll (count old - count one) before after (Err e) → Gives before after (Err e) whole
+    items_fail before after e less = others_fail old whole one (mine i x) i at parts_now before after e less
 
     pub item_fails : (before mid after : ℕ) (e : TreeRefused) → mid + (count old - count one) ≡ before → Gives mid after (Err e) (mine i x) → Gives before after (Err e) whole
     item_fails before mid after e taken fails = one_fails old whole one (mine i x) i at parts_now before mid after e taken fails
@@ -133,19 +164,16 @@ module _ (m : Manifest) (A B : Answers) (g : Scope) (left : ℕ) (prefix : List 
           let were_open : all_finished ys ≡ false = sym (ap (λ (ms : List Made). all_finished ms) (row_in_row ys)) ∙ sym (ap (λ (p : Parts). all_finished (row_in p)) parts_were) ∙ open_then in
           let are_open : all_finished (row_in (replaced old.parts i (mine i x))) ≡ false = sym (ap (λ (b : Made). all_finished (row_in b.parts)) put) ∙ open_now in
           let declared = declared_by (template_named m c.template) in
-          let before_so = was ∙ looped_is m B g (calls m B g left) prefix place scope c ds i x found in (
-            put ∙ sym (loop_other place declared xs ys old (mine i x) i before_so were_open rows are_open) ∙ sym (looped_is m A g (calls m A g left) prefix place scope c ds i x found),
+          let before_so = was_so ∙ looped_is m B g (calls m B g left) prefix place scope c ds i x found in (
+            put ∙ sym (loop_other place declared xs ys old (mine i x) i before_so were_open rows are_open) ∙ sym (looped_is m A g (calls m A g left) prefix place scope c ds i x found) ∙ sym whole_is,
             room,
           )
 
       -- all its items are gone through
       pub items_listed : (states : List Made) (made : Made) → states ≡ row_in state.parts → made ≡ loop_made place (declared_by (template_named m c.template)) states → (made ≡ whole) × (after + count whole ≡ before)
       items_listed states made listed over =
-          let all : states ≡ xs = listed ∙ ap (λ (b : Made). row_in b.parts) put ∙ ap (λ (p : Parts). row_in p) (ap (λ (p : Parts). replaced p i (mine i x)) parts_were ∙ sym rows) ∙ row_in_row xs in
-          (over ∙ ap (λ (ms : List Made). loop_made place (declared_by (template_named m c.template)) ms) all ∙ sym (looped_is m A g (calls m A g left) prefix place scope c ds i x found), room)
-
-  pub items_fail : (before after : ℕ) (e : TreeRefused) → TakesAll (count old - count one) before after (Err e) → Gives before after (Err e) whole
-  items_fail before after e less = others_fail old whole one (mine i there.0) i at (parts_now there.0 there.1) before after e less
+          let every : states ≡ xs = listed ∙ ap (λ (b : Made). row_in b.parts) put ∙ ap (λ (p : Parts). row_in p) (ap (λ (p : Parts). replaced p i (mine i x)) parts_were ∙ sym rows) ∙ row_in_row xs in
+          (over ∙ ap (λ (ms : List Made). loop_made place (declared_by (template_named m c.template)) ms) every ∙ sym (looped_is m A g (calls m A g left) prefix place scope c ds i x found) ∙ sym whole_is, room)
 
 -- ---- a group of steps
 

@@ -54,6 +54,13 @@ module _ (m : Manifest) (A B : Answers) (g : Scope) (left : ℕ) (place : Place)
       let both : Some whole ≡ Some old = sym (ap made_of begun) ∙ stays m A B g left place scope d plan j rest t is_plan so same is_task in
       sym (cc both)
 
+  -- what stays had begun
+  pub had_begun : (old : Made) → Stays w i old → (begins : Bool) → stands_at A called place scope d i ≡ free_by A called place scope d seen i t begins → begins ≡ true
+  had_begun old stays true is = refl
+  had_begun old stays false is =
+      let none : None ≡ Some old = sym (ap made_of is) ∙ stays m A B g left place scope d plan j rest t is_plan so same is_task in
+      absurd (cc none)
+
   module _ (at : Place) (here : at ≡ task_place place i t) (inner : Scope) (values : HasValuesOf inner (seen ++ scope)) where
     -- in a scope with the values of its own
     pub inner_as : called (codes "tasks.") at inner t.call ≡ whole

@@ -4,6 +4,7 @@ use Rattle.base_types.specs.declared.memory.Memory.{Memory}
 use Rattle.tree_types.specs.declared.path.Sel.TheVariants.{Item}
 use Rattle.tree_types.specs.Places.{sels_eq}
 use Rattle.wf_manifest.specs.declared.calls.Call.{Call}
+use Rattle.wf_manifest.specs.declared.calls.Dag.{Dag}
 use Rattle.wf_manifest.specs.declared.calls.Loop.{Loop}
 use Rattle.wf_manifest.specs.declared.templates.OutputDecl.{OutputDecl}
 use Rattle.wf_manifest.specs.declared.templates.Template.{Template}
@@ -13,6 +14,7 @@ use Rattle.meaning.specs.declared.lines.Place.{Place}
 use Rattle.meaning.specs.Answers.{Sels, Answers}
 use Rattle.meaning.specs.Lines.{Made}
 use Rattle.meaning.specs.Steps.{group_made, members, steps_made}
+use Rattle.meaning.specs.Dags.{dag_made}
 use Rattle.meaning.specs.Calls.{template_made, one_made, calls}
 use Rattle.meaning.specs.Trees.{top_call}
 use Rattle.locality.specs.Answered.{SameBut}
@@ -64,6 +66,13 @@ module _ (m : Manifest) (A : Answers) (old : Made) (rest : Sels) (result : Resul
       (B : Answers) (changed : Sels) (g : Scope) (left : ℕ) (group : Place) (scope : Scope) →
       SameBut A B changed → changed ≡ group.sels ++ rest → old ≡ group_made group (members (calls m B g left) group scope cs) →
       IfGiven result (λ z. (z ≡ group_made group (members (calls m A g left) group scope cs)) × IsRunning z)
+
+  -- a DAG of which a task runs on: it runs itself, and ran
+  abbrev pub DagChanges : Dag → Type 0
+  DagChanges d =
+      (B : Answers) (changed : Sels) (g : Scope) (left : ℕ) (place : Place) (scope : Scope) (declared : List OutputDecl) →
+      SameBut A B changed → changed ≡ place.sels ++ rest → old ≡ dag_made B (calls m B g left) place scope declared d →
+      IfGiven result (λ z. (z ≡ dag_made A (calls m A g left) place scope declared d) × IsRunning z × (sels_eq place.sels changed ≡ false))
 
   abbrev pub LoopChanges : Call → Loop → ℕ → Type 0
   LoopChanges c l i =

@@ -1,3 +1,4 @@
 -- What speaks only of private code.
 pub mod Groups
+pub mod OneItem
 pub mod Resuming

@@ -1,10 +1,11 @@
 //! The walk that is made again once one fact more is recorded: it goes down the path of the fact alone. What stands beside the
 //! path is shared with what was made before, and what begins anew is made by the walk over all.
 
-ghost use Rattle.std.specs.Prelude.{◌≡◌, ◌+◌, ◌++◌, ◌∷◌, ◌*◌, ◌<◌, ◌≤◌, All, IsTrue, Ok, Some, codes, option_copied, slice_get};
+ghost use Rattle.std.specs.Prelude.{◌≡◌, ◌+◌, ◌++◌, ◌∷◌, ◌*◌, ◌<◌, ◌≤◌, All, IsTrue, Some, codes, option_copied, slice_get};
 ghost use Rattle.base_types.specs.Limits.{most_nodes};
 ghost use Rattle.tree_types.specs.declared.path.Sel.TheVariants as sels;
-ghost use Rattle.fanout.specs.Items.{is_whole};
+ghost use Rattle.fanout.specs.Items.{is_whole, items};
+ghost use Rattle.tree_change.specs.Inside.OneItem.{IsItemAt};
 ghost use Rattle.meaning.specs.Calls as meant;
 ghost use Rattle.meaning.specs.Steps as steps;
 ghost use Rattle.meaning.specs.Trees as trees;
@@ -24,9 +25,9 @@ use crate::share::{
 };
 use base_types::{List, Text, TryCopy};
 use call_nodes::{copy_place, group_place, item_place, member_place};
-use call_texts::{item_scope, loop_items, said, template_scope};
-use fanout::Items;
+use call_texts::{item_scope, said, template_scope};
 use leaf_states::saving;
+use loop_item::loop_item;
 use meaning::Place;
 use recorded::Recorded;
 use scopes::Scope;
@@ -36,7 +37,7 @@ use tree_walk::{
     After, FURTHER_DEPTHS, Group, Listed, Positions, Row, Walk, group_over, steps_over, top_state,
 };
 use wf_manifest::{
-    Arguments, Call, Group as Calls, Groups, Json, Manifest, Memoize, OutputDecls, Template,
+    Arguments, Call, Group as Calls, Groups, Json, Loop, Manifest, Memoize, OutputDecls, Template,
 };
 
 // A walk over a manifest and what is recorded of it together with a fact, and what was recorded before the fact.
@@ -135,25 +136,16 @@ impl<R: Recorded> Again<'_, R> {
         let Some(each) = &call.each else {
             return self.one(of, place, scope, call, old, rest, left - 1, room);
         };
-        let Some((i, item, others)) = item_below(old, rest) else {
+        let Some((i, before, others)) = item_below(old, rest) else {
             return self.walk.call(of, place, scope, call, left, room);
         };
-        match loop_items(self.walk.alloc(), each, scope) {
-            Ok(items) => self.looped(
-                of,
-                place,
-                scope,
-                call,
-                &items,
-                old,
-                i,
-                item,
-                others,
-                left - 1,
-                room,
-            ),
-            Err(_) => self.walk.call(of, place, scope, call, left, room),
-        }
+        let Some(item) = loop_item(self.walk.alloc(), each, scope, i as usize)? else {
+            return self.walk.call(of, place, scope, call, left, room);
+        };
+        let left = left - 1;
+        self.looped(
+            of, place, scope, call, each, i, &item, old, before, others, left, room,
+        )
     }
 
     // A looped call whose node ran, where the path goes down into its item `i`. All other items stay as they are: only where
@@ -165,30 +157,31 @@ impl<R: Recorded> Again<'_, R> {
         place: Place,
         scope: &Scope,
         call: &Call,
-        items: &Items,
-        old: &State,
+        each: &Loop,
         i: u32,
+        item: &Json,
+        old: &State,
         before: &State,
         rest: &[Sel],
         left: u32,
         room: &mut Room,
     ) -> Result<State, TreeRefused>
         requires resumes { Resumes R.answers self.now (place.sels ++ sels.Item i ∷ rest.now) }
-        requires whole { All (λ item. IsTrue (is_whole item)) items.now }
+        requires item { IsItemAt scope.now each.now i item.now }
+        requires whole { IsTrue (is_whole item.now) }
         requires shallow { place.depth + 5 * left + 10 < 1000 }
         requires at { call_at old.now.parts i ≡ Some before.now }
         requires was { let m = self.now.walk.manifest.now in
             let B = R.answers self.now.before.now in
             let g = self.now.walk.globals.now in
-            old.now ≡ meant.looped m B g (meant.calls m B g left) (prefix_of of) place scope.now call.now (Ok items.now) }
+            old.now ≡ meant.looped m B g (meant.calls m B g left) (prefix_of of) place scope.now call.now (items scope.now each.now) }
         ensures { let m = self.now.walk.manifest.now in
             let A = R.answers self.now.walk.recorded.now in
             let g = self.now.walk.globals.now in
             Gives room.old room.new result
-            (meant.looped m A g (meant.calls m A g left) (prefix_of of) place scope.now call.now (Ok items.now)) }
+            (meant.looped m A g (meant.calls m A g left) (prefix_of of) place scope.now call.now (items scope.now each.now)) }
     {
         take_others(old, before, room)?;
-        let item = items.get(i as usize);
         let new = self.item(of, &place, scope, call, i, item, before, rest, left, room)?;
         let state = old.with_item(i as usize, new)?;
         if runs_on(old, &state) {

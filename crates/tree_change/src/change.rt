@@ -1,31 +1,37 @@
 //! The way down to the place of a fact, and up again.
 
-ghost use Rattle.std.specs.Prelude.{◌≡◌, Some};
+ghost use Rattle.std.specs.Prelude.{◌≡◌, ◌||◌, not, IsTrue, Some};
+ghost use Rattle.wf_manifest.specs.Valid.{HasRank, HasNoCircle, retry_fits};
 ghost use Rattle.wf_manifest.specs.declared.calls.Loop.{Loop};
 ghost use Rattle.wf_manifest.specs.declared.templates.Body.TheVariants as body;
 ghost use Rattle.meaning.specs.Answers.{Sels};
 ghost use Rattle.meaning.specs.Lines.{lines_in};
-ghost use Rattle.tree_change.specs.Asking.{AsksNoMore};
-ghost use Rattle.tree_change.specs.Entered.{IsRunning};
-ghost use Rattle.tree_change.specs.Changes.{IfGiven, TopChanges, CallChanges, OneChanges, TemplateChanges, StepsChange, GroupChanges, LoopChanges};
+ghost use Rattle.meaning.specs.Pods.{pod_made};
+ghost use Rattle.tree_change.specs.Asking.{place_in, AsksNoMore};
+ghost use Rattle.tree_change.specs.Entered.{IsRunning, place_of};
+ghost use Rattle.tree_change.specs.Changes.{IfGiven, TopChanges, CallChanges, OneChanges, TemplateChanges, StepsChange, GroupChanges, DagChanges, LoopChanges};
 ghost use Rattle.tree_walk.specs.Index.{IsReady};
 
 use crate::leaf::{
-    has_hook, is_bare, is_running, is_unlocked, item_at, place_of, pod_state, split,
+    has_hook, is_running, is_uncached, is_unlocked, item_at, place_of, pod_state, retried_state,
+    split,
 };
 use crate::pods::asks_no_more;
 use base_types::{Memory, Text};
+use dag_stays::call_of_task;
+use meaning::Place;
 use recorded::Recorded;
 use tree_state::State;
 use tree_types::Sel;
 use tree_walk::{Positions, find_template};
-use wf_manifest::{Body, Call, Group, Groups, Manifest, Template};
+use wf_manifest::{Body, Call, Dag, Group, Groups, Manifest, Template};
 
-// A manifest, where its templates stand, and what is recorded of it together with the fact.
+// A manifest, where its templates stand, what is recorded of it together with the fact, and whether no new pod may be asked for.
 struct Change<'a, R> {
     manifest: &'a Manifest,
     positions: &'a Positions,
     recorded: &'a R,
+    quiet: bool,
 }
 
 impl<R> Drop for Change<'_, R> {
@@ -34,6 +40,7 @@ impl<R> Drop for Change<'_, R> {
             manifest: _,
             positions: _,
             recorded: _,
+            quiet: _,
         } = self;
     }
 }
@@ -42,11 +49,13 @@ impl<R> Drop for Change<'_, R> {
 /// path of the fact has behind the node of the entrypoint or the exit handler.
 ///
 /// There is none where more may change than the nodes on the way to the fact: where a call below ends with it that others
-/// wait for, and in some forms of call. So the nodes keep their places, and no pod is asked for that was not asked for before.
+/// wait for, and in some forms of call. Where it is to be quiet, there is also none where a pod may be asked for that was not
+/// asked for before, or where nodes come to stand: so the nodes keep their places.
 pub fn changed_top<R: Recorded>(
     manifest: &Manifest,
     positions: &Positions,
     recorded: &R,
+    quiet: bool,
     old: &State,
     template: &Text,
     rest: &[Sel],
@@ -54,12 +63,13 @@ pub fn changed_top<R: Recorded>(
     requires { IsReady manifest.now positions.now }
     ensures makes { TopChanges manifest.now (R.answers recorded.now) old.now rest.now result
         template.now }
-    ensures keeps { IfGiven result (λ new. AsksNoMore (lines_in new) (lines_in old.now)) }
+    ensures keeps { IsTrue quiet → IfGiven result (λ new. AsksNoMore (lines_in new) (lines_in old.now)) }
 {
     let change = Change {
         manifest,
         positions,
         recorded,
+        quiet,
     };
     if !is_running(old) {
         return Ok(None);
@@ -75,7 +85,7 @@ impl<R: Recorded> Change<'_, R> {
     fn call(&self, old: &State, call: &Call, rest: &[Sel]) -> Result<Option<State>, Memory>
         requires { IsReady self.now.manifest.now self.now.positions.now }
         ensures makes { CallChanges self.now.manifest.now (R.answers self.now.recorded.now) old.now rest.now result call.now }
-        ensures keeps { IfGiven result (λ new. AsksNoMore (lines_in new) (lines_in old.now)) }
+        ensures keeps { IsTrue self.now.quiet → IfGiven result (λ new. AsksNoMore (lines_in new) (lines_in old.now)) }
     {
         if !is_running(old) {
             return Ok(None);
@@ -97,7 +107,7 @@ impl<R: Recorded> Change<'_, R> {
     fn item(&self, old: &State, call: &Call, i: u32, rest: &[Sel]) -> Result<Option<State>, Memory>
         requires { IsReady self.now.manifest.now self.now.positions.now }
         ensures makes { (l : Loop) → LoopChanges self.now.manifest.now (R.answers self.now.recorded.now) old.now rest.now result call.now l i }
-        ensures keeps { IfGiven result (λ new. AsksNoMore (lines_in new) (lines_in old.now)) }
+        ensures keeps { IsTrue self.now.quiet → IfGiven result (λ new. AsksNoMore (lines_in new) (lines_in old.now)) }
     {
         let Some(item) = old.call_at(i as usize) else {
             return Ok(None);
@@ -120,7 +130,7 @@ impl<R: Recorded> Change<'_, R> {
     fn one(&self, old: &State, call: &Call, rest: &[Sel]) -> Result<Option<State>, Memory>
         requires { IsReady self.now.manifest.now self.now.positions.now }
         ensures makes { OneChanges self.now.manifest.now (R.answers self.now.recorded.now) old.now rest.now result call.now }
-        ensures keeps { IfGiven result (λ new. AsksNoMore (lines_in new) (lines_in old.now)) }
+        ensures keeps { IsTrue self.now.quiet → IfGiven result (λ new. AsksNoMore (lines_in new) (lines_in old.now)) }
     {
         if !is_running(old) {
             return Ok(None);
@@ -146,45 +156,80 @@ impl<R: Recorded> Change<'_, R> {
         rest: &[Sel],
     ) -> Result<Option<State>, Memory>
         requires ready { IsReady self.now.manifest.now self.now.positions.now }
+        requires circle { HasNoCircle template.now.body }
+        requires fits { IsTrue (retry_fits template.now.retry) }
         requires runs { IsRunning old.now }
         ensures makes { TemplateChanges self.now.manifest.now (R.answers self.now.recorded.now) old.now rest.now result template.now }
-        ensures keeps { IfGiven result (λ new. AsksNoMore (lines_in new) (lines_in old.now)) }
+        ensures keeps { IsTrue self.now.quiet → IfGiven result (λ new. AsksNoMore (lines_in new) (lines_in old.now)) }
     {
         match &template.body {
             Body::Pod => self.pod(old, template),
             Body::Steps(groups) => self.steps(old, groups, rest),
-            Body::Dag(_) | Body::Suspend(_) => Ok(None),
+            Body::Dag(dag) => self.dag(old, dag, rest),
+            Body::Suspend(_) => Ok(None),
         }
     }
 
-    // A pod without a retry, of which the cache is not asked.
+    // A pod of which the cache is not asked. One with a retry may ask for a further attempt.
     fn pod(&self, old: &State, template: &Template) -> Result<Option<State>, Memory>
         requires runs { IsRunning old.now }
         requires form { template.now.body ≡ body.Pod }
+        requires fits { IsTrue (retry_fits template.now.retry) }
         ensures makes { (rest : Sels) → TemplateChanges self.now.manifest.now (R.answers self.now.recorded.now) old.now rest result template.now }
-        ensures keeps { IfGiven result (λ new. AsksNoMore (lines_in new) (lines_in old.now)) }
+        ensures keeps { IsTrue self.now.quiet → IfGiven result (λ new. AsksNoMore (lines_in new) (lines_in old.now)) }
     {
-        if !is_bare(template) {
+        if !is_uncached(template) {
             return Ok(None);
         }
         let place = place_of(old.node())?;
         if !is_unlocked(self.recorded, &place, template) {
             return Ok(None);
         }
+        let Some(retry) = &template.retry else {
+            return self.single(old, place, template);
+        };
+        if self.quiet {
+            return Ok(None);
+        }
+        retried_state(self.recorded, place, &template.outputs, retry)
+    }
+
+    // A pod without a retry, at the place of the node before it.
+    fn single(
+        &self,
+        old: &State,
+        place: Place,
+        template: &Template,
+    ) -> Result<Option<State>, Memory>
+        requires { place ≡ place_of old.now.own.node }
+        ensures makes { IfGiven result (λ state. state ≡ pod_made (R.answers self.now.recorded.now) place template.now.outputs) }
+        ensures keeps { IsTrue self.now.quiet → IfGiven result (λ new. AsksNoMore (lines_in new) (lines_in old.now)) }
+    {
         let Some(new) = pod_state(self.recorded, place, &template.outputs)? else {
             return Ok(None);
         };
-        if !asks_no_more(&new, old) {
+        if !self.allows(&new, old) {
             return Ok(None);
         }
         Ok(Some(new))
+    }
+
+    // Whether a node may stand in the place of another, by the pods that they ask for.
+    fn allows(&self, new: &State, old: &State) -> bool
+        ensures { place_in new.now.own.node ≡ place_in old.now.own.node → IsTrue self.now.quiet → IsTrue result
+            → AsksNoMore (lines_in new.now) (lines_in old.now) }
+    {
+        if !self.quiet {
+            return true;
+        }
+        asks_no_more(new, old)
     }
 
     #[cycle(change)]
     fn steps(&self, old: &State, groups: &Groups, rest: &[Sel]) -> Result<Option<State>, Memory>
         requires { IsReady self.now.manifest.now self.now.positions.now }
         ensures makes { StepsChange self.now.manifest.now (R.answers self.now.recorded.now) old.now rest.now result groups.now }
-        ensures keeps { IfGiven result (λ new. AsksNoMore (lines_in new) (lines_in old.now)) }
+        ensures keeps { IsTrue self.now.quiet → IfGiven result (λ new. AsksNoMore (lines_in new) (lines_in old.now)) }
     {
         let Some((first, others)) = split(rest) else {
             return Ok(None);
@@ -216,7 +261,7 @@ impl<R: Recorded> Change<'_, R> {
         requires ready { IsReady self.now.manifest.now self.now.positions.now }
         requires runs { IsRunning old.now }
         ensures makes { GroupChanges self.now.manifest.now (R.answers self.now.recorded.now) old.now rest.now result calls.now }
-        ensures keeps { IfGiven result (λ new. AsksNoMore (lines_in new) (lines_in old.now)) }
+        ensures keeps { IsTrue self.now.quiet → IfGiven result (λ new. AsksNoMore (lines_in new) (lines_in old.now)) }
     {
         let Some((first, others)) = split(rest) else {
             return Ok(None);
@@ -238,5 +283,47 @@ impl<R: Recorded> Change<'_, R> {
             return Ok(None);
         }
         Ok(Some(state))
+    }
+
+    // A DAG of which a task runs on, though a call below the task may end: no other task sees anything of it.
+    #[cycle(change)]
+    fn dag(&self, old: &State, dag: &Dag, rest: &[Sel]) -> Result<Option<State>, Memory>
+        requires ready { IsReady self.now.manifest.now self.now.positions.now }
+        requires ranked { HasRank dag.now.tasks }
+        ensures makes { DagChanges self.now.manifest.now (R.answers self.now.recorded.now) old.now rest.now result dag.now }
+        ensures keeps { IsTrue self.now.quiet → IfGiven result (λ new. AsksNoMore (lines_in new) (lines_in old.now)) }
+    {
+        let Some((first, others)) = split(rest) else {
+            return Ok(None);
+        };
+        let Sel::Task(j) = first else {
+            return Ok(None);
+        };
+        let Some(task) = item_at(&dag.tasks, j as usize) else {
+            return Ok(None);
+        };
+        let Some((at, made)) = call_of_task(old, j) else {
+            return Ok(None);
+        };
+        if made.is_finished() {
+            return Ok(None);
+        }
+        if !self.has_begun(dag, made) {
+            return Ok(None);
+        }
+        let Some(new) = self.call(made, &task.call, others)? else {
+            return Ok(None);
+        };
+        if new.is_finished() {
+            return Ok(None);
+        }
+        Ok(Some(old.with_call(at, new)?))
+    }
+
+    // Whether nothing keeps a task from its beginning, by what it made before.
+    fn has_begun(&self, dag: &Dag, task: &State) -> bool
+        ensures { result ≡ (not dag.now.fail_fast || (R.answers self.now.recorded.now).begun task.now.own.node.path.sels) }
+    {
+        !dag.fail_fast || self.recorded.begun(&task.node().path.sels)
     }
 }

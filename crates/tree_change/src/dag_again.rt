@@ -176,7 +176,7 @@ impl<R: Recorded> Again<'_, R> {
         }
     }
 
-    // The task whose turn is next, and which nothing holds back.
+    // The task whose turn is next, and which nothing holds back. One that stays had begun, so that nothing is asked of it.
     #[cycle(again)]
     fn freed(
         &self,
@@ -217,6 +217,10 @@ impl<R: Recorded> Again<'_, R> {
             (IsBoard A called place.now scope.now dag.now (take (suc k) plan.now.order) board.new)
             (stood_count (stands_at A called place.now scope.now dag.now i)) }
     {
+        if let Some(old) = were.stays(i) {
+            let same = shared(old, room)?;
+            return Ok(board.begin(self.walk.alloc(), dag, plan, i, same)?);
+        }
         let at = task_place(place, i as u32, task)?;
         if !begins(self.walk.recorded, dag, &at) {
             board.set_ready(self.walk.alloc(), dag, plan, i);
@@ -228,7 +232,7 @@ impl<R: Recorded> Again<'_, R> {
         Ok(board.begin(self.walk.alloc(), dag, plan, i, made)?)
     }
 
-    // What the task whose turn is next makes, which begins.
+    // What the task whose turn is next makes, which begins and does not stay.
     #[cycle(again)]
     fn begun(
         &self,
@@ -269,9 +273,6 @@ impl<R: Recorded> Again<'_, R> {
             Gives room.old room.new result (called (codes "tasks.") (dags.task_place place.now i task.now)
             (seen_by A called place.now scope.now dag.now task.now ++ scope.now) task.now.call) }
     {
-        if let Some(old) = were.stays(i) {
-            return shared(old, room);
-        }
         let inner = board.scope_before(self.walk.alloc(), dag, plan, i, scope)?;
         let state = self.inside(
             place, at, scope, &inner, dag, plan, were, i, task, j, rest, left, room,

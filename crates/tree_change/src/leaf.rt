@@ -3,19 +3,20 @@
 ghost use Rattle.std.specs.Prelude.{◌≡◌, ◌∷◌, ◌&&◌, IfOk, IfSome, IsTrue, None, false, is_some, option_copied, slice_get};
 ghost use Rattle.meaning.specs.Calls as calls;
 ghost use Rattle.meaning.specs.Lines.{row_in, all_finished};
-ghost use Rattle.meaning.specs.Pods.{pod_made};
+ghost use Rattle.meaning.specs.Pods.{pod_made, retry_made};
+ghost use Rattle.wf_manifest.specs.Valid.{limit_fits};
 ghost use Rattle.tree_change.specs.Entered.{IsRunning, place_of};
 ghost use Rattle.tree_change.specs.Open.{unlocked};
 ghost use Rattle.tree_change.specs.Changes.{IfGiven};
 
 use base_types::{List, Memory, TryCopy};
 use hooks_exit::hook_runs;
-use leaf_states::pod;
+use leaf_states::{pod, retried};
 use meaning::Place;
 use recorded::Recorded;
 use tree_state::{Room, State, TreeRefused};
 use tree_types::{Node, Phase, Sel};
-use wf_manifest::{Call, OutputDecls, Template};
+use wf_manifest::{Call, OutputDecls, Retry, Template};
 
 /// The first selector of a path, and those behind it.
 pub fn split(path: &[Sel]) -> Option<(Sel, &[Sel])>
@@ -59,14 +60,11 @@ pub fn has_hook(call: &Call, phase: Phase) -> bool
     }
 }
 
-/// Whether a template has neither a retry nor a cache.
-pub fn is_bare(template: &Template) -> bool
-    ensures { IsTrue result → (template.now.retry ≡ None) × (template.now.memoize ≡ None) }
+/// Whether a template has no cache.
+pub fn is_uncached(template: &Template) -> bool
+    ensures { IsTrue result → template.now.memoize ≡ None }
 {
-    match (&template.retry, &template.memoize) {
-        (None, None) => true,
-        _ => false,
-    }
+    template.memoize.is_none()
 }
 
 /// The place that a node stands at.
@@ -99,6 +97,26 @@ pub fn pod_state<R: Recorded>(
     ensures { IfGiven result (λ state. state ≡ pod_made (R.answers recorded.now) place declared.now) }
 {
     match pod(recorded, place, declared, &mut Room::new()) {
+        Ok(state) => Ok(Some(state)),
+        Err(TreeRefused::TooLarge) => Ok(None),
+        Err(TreeRefused::Memory) => Err(Memory),
+    }
+}
+
+/// A pod with a retry, of a template that declares these outputs.
+pub fn retried_state<R: Recorded>(
+    recorded: &R,
+    place: Place,
+    declared: &OutputDecls,
+    retry: &Retry,
+) -> Result<Option<State>, Memory>
+    requires { IsTrue (limit_fits retry.now.limit) }
+    ensures { IfGiven result (λ state. state ≡ retry_made (R.answers recorded.now) place declared.now retry.now) }
+{
+    if place.depth == u32::MAX {
+        return Ok(None);
+    }
+    match retried(recorded, place, declared, retry, &mut Room::new()) {
         Ok(state) => Ok(Some(state)),
         Err(TreeRefused::TooLarge) => Ok(None),
         Err(TreeRefused::Memory) => Err(Memory),

@@ -1,6 +1,6 @@
 //! The tree of a workflow, kept as it was made.
 
-ghost use Rattle.std.specs.Prelude.{◌≡◌, ◌≢◌, ◌∷◌, Err, IfOk, IfSome, length, option_copied, option_map};
+ghost use Rattle.std.specs.Prelude.{◌≡◌, ◌≢◌, ◌∷◌, Err, IfOk, IfSome, IsTrue, length, option_copied, option_map};
 ghost use Rattle.std.specs.List.{find};
 ghost use Rattle.meaning.specs.Trees.{nodes_in, wants_in, beginnings_in};
 ghost use Rattle.tree_state.specs.declared.refused.TreeRefused.TheVariants as refused;
@@ -77,8 +77,8 @@ impl WorkflowTree {
     }
 
     /// The tree once one fact more is recorded, where no more changes than the nodes on the way to the fact: `changed` is the
-    /// path of the fact, `before` what was recorded without it, and all other nodes are shared. So the nodes keep their places,
-    /// and no pod is asked for that was not asked for before.
+    /// path of the fact, `before` what was recorded without it, and all other nodes are shared. Where it is to be quiet, the nodes
+    /// keep their places, and no pod is asked for that was not asked for before: there is none where that may not be so.
     ///
     /// There is none where more may change: where the workflow did not run, where the fact is none of the entrypoint, where
     /// the exit handler runs, and where something waits for what the fact ends.
@@ -88,13 +88,14 @@ impl WorkflowTree {
         positions: &Positions,
         recorded: &R,
         before: &R,
+        quiet: bool,
         changed: &[Sel],
     ) -> Result<Option<WorkflowTree>, Memory>
         requires ready { IsReady manifest.now positions.now }
         requires same { SameBut (R.answers recorded.now) (R.answers before.now) changed.now }
         requires tree { self.now ≡ whole manifest.now (R.answers before.now) }
         ensures meant { RunsOn manifest.now (R.answers recorded.now) result }
-        ensures keeps { IfOk result (λ made.
+        ensures keeps { IsTrue quiet → IfOk result (λ made.
             IfSome made (λ tree. AsksNoMore (lines_of tree) (lines_of self.now))) }
     {
         let Some(rest) = self.below_main(changed) else {
@@ -105,7 +106,7 @@ impl WorkflowTree {
         }
         let old = &self.tops.main;
         let entry = &manifest.entrypoint;
-        let Some(main) = changed_top(manifest, positions, recorded, old, entry, rest)? else {
+        let Some(main) = changed_top(manifest, positions, recorded, quiet, old, entry, rest)? else {
             return Ok(None);
         };
         if main.is_finished() {

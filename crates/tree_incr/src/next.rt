@@ -50,7 +50,8 @@ pub fn unstarted_tree(manifest: &Manifest, facts: &SharedFacts) -> Result<Workfl
     }
 }
 
-// The tree by the one before, where no more changes than the nodes on the way to the fact.
+// The tree by the one before, where no more changes than the nodes on the way to the fact; where it is to be quiet, only if no
+// new pod is asked for.
 fn along(
     manifest: &Manifest,
     positions: &Positions,
@@ -58,18 +59,19 @@ fn along(
     known: &SharedFacts,
     facts: &SharedFacts,
     changed: &Option<Sels>,
+    quiet: bool,
 ) -> Result<Option<WorkflowTree>, Memory>
     requires ready { IsReady manifest.now positions.now }
     requires tree { before.now ≡ whole manifest.now (answers known.now) }
     requires more { IsOneMore known.now facts.now changed.now }
     ensures meant { RunsOn manifest.now (answers facts.now) result }
-    ensures keeps { IfOk result (λ made.
+    ensures keeps { IsTrue quiet → IfOk result (λ made.
         IfSome made (λ tree. AsksNoMore (lines_of tree) (lines_of before.now))) }
 {
     facts_are_local();
     match changed {
         None => Ok(None),
-        Some(sels) => before.along(manifest, positions, facts, known, sels.as_slice()),
+        Some(sels) => before.along(manifest, positions, facts, known, quiet, sels.as_slice()),
     }
 }
 
@@ -133,8 +135,11 @@ pub fn next_tree(
     ensures keeps { IfOk result (λ made. IsTrue made.1
         → AsksNoMore (lines_of made.0) (lines_of before.now)) }
 {
-    if let Some(tree) = along(manifest, positions, before, known, facts, changed)? {
+    if let Some(tree) = along(manifest, positions, before, known, facts, changed, true)? {
         return Ok((tree, true));
+    }
+    if let Some(tree) = along(manifest, positions, before, known, facts, changed, false)? {
+        return Ok((tree, false));
     }
     let tree = following_or_new(manifest, positions, before, known, facts, changed)?;
     Ok((tree, false))

@@ -1,8 +1,8 @@
 -- What a walk that is made again gives.
-use Rattle.std.proofs.Common.{rules, suc, get_or, take, Result, ◌≡◌, ℕ, ◌+◌, ◌<◌, ◌≤◌, List, ◌∷◌, ◌++◌, length, drop, Ok, Err, codes, refl, sym, ap, ◌∙◌, subst, arith, IsTrue, All}
-use Rattle.std.specs.Prelude.{option_copied, slice_get}
-use Rattle.wf_manifest.proofs.Each.{All-from_list_all}
-use Rattle.fanout.specs.Items.{is_whole}
+use Rattle.std.proofs.Common.{rules, not, ◌||◌, suc, get_or, take, Result, ◌≡◌, ℕ, ◌+◌, ◌<◌, ◌≤◌, List, ◌∷◌, ◌++◌, length, drop, Ok, Err, codes, refl, sym, ap, ◌∙◌, subst, arith, IsTrue, All}
+use Rattle.std.specs.Prelude.{IfSome, Option, option_copied, slice_get}
+use Rattle.serde_json.specs.Data.{Data}
+use Rattle.fanout.specs.Items.{is_whole, items}
 use Rattle.tree_types.specs.declared.path.Sel.TheVariants.{Group, Item, Step, Task as task_sel}
 use Rattle.meaning.specs.declared.lines.Place.{Place}
 use Rattle.meaning.specs.Answers.{Sels}
@@ -20,7 +20,7 @@ use Rattle.tree_change.proofs.Changing.{steps_template_again, steps_template_sav
 use Rattle.tree_change.proofs.Given.{some_same}
 use Rattle.tree_walk.proofs.Groups.{members_calls, turn, groups_fail, groups_room, groups_next, groups_done}
 use Rattle.tree_change.proofs.Keeping.{group_keeps, groups_keep, group_refused, groups_refused, seen_over, groups_end, steps_done}
-use Rattle.tree_change.proofs.Placing.{item_low, item_had, item_fails, item_put, items_listed, items_fail, member_low, member_had, member_fails, member_put, members_listed, members_fail}
+use Rattle.tree_change.proofs.Placing.{item_told, item_had, item_fails, item_put, items_listed, items_fail, member_low, member_had, member_fails, member_put, members_listed, members_fail}
 use Rattle.tree_walk.proofs.Rooms.{gives_as, by_err, part_fails, few_in_row, long_more}
 use Rattle.meaning.specs.Dags.{task_place, standings, dag_made}
 use Rattle.locality.specs.Answered.{SameBut}
@@ -31,7 +31,7 @@ use Rattle.dag_board.proofs.Writing.{waiting_is_shown}
 use Rattle.tree_walk.specs.Inside.Tasks.{stood_count, count_at, GivesTask, GivesBoard}
 use Rattle.tree_walk.proofs.Tasks.{got, is_low, task_waits, stands_free, task_omitted, task_no_room, task_ready, task_begun, task_fails, tasks_next, tasks_fail}
 use Rattle.tree_walk.proofs.Dags.{named_at, dag_fails, dag_done}
-use Rattle.tree_change.proofs.Tasks.{walkable_dag, begins_now, stays_as, inner_as, same_inside, was_inside}
+use Rattle.tree_change.proofs.Tasks.{walkable_dag, begins_now, had_begun, stays_as, inner_as, same_inside, was_inside}
 use Rattle.tree_change.proofs.again.Again.+again.Goals as goal
 
 -- ---- calls
@@ -56,16 +56,18 @@ call-looped-requires g t c κs within =
     let m = c.args.self.now.walk.manifest.now in
     let A = g.R.Recorded.answers c.args.self.now.walk.recorded.now in
     let B = g.R.Recorded.answers c.args.self.now.before.now in
-    let was = looped_was m A B c.args.self.now.walk.globals.now c.args.left (prefix_of c.args.of) c.args.place c.args.scope.now c.args.call.now c.args.old.now c.if-left-eq0.false c.requires.was (c.if-not-is_running.ensures refl) c.in-Some.each c.in-Ok.items c.in-Some.is c.in-Ok.ensures.told in
+    let was = looped_was m A B c.args.self.now.walk.globals.now c.args.left (prefix_of c.args.of) c.args.place c.args.scope.now c.args.call.now c.args.old.now c.if-left-eq0.false c.requires.was (c.if-not-is_running.ensures refl) c.in-Some.each c.in-Some.is in
     let same = subst (λ (r : Sels). SameBut A B (c.args.place.sels ++ r)) c.in-Some-item_below.ensures.path c.requires.resumes.same in
-    (omega (arith, c.if-left-eq0.false), (within, (record { ready = c.requires.resumes.ready; same = same }, (All-from_list_all is_whole c.in-Ok.items c.in-Ok.ensures.whole, (omega (arith, c.if-left-eq0.false, c.requires.shallow), (c.in-Some-item_below.ensures.item, was))))))
+    let whole = subst (λ (o : Option Data). IfSome o (λ x. IsTrue (is_whole x))) c.in-Some-2.is c.in_ok-item.ensures.whole in
+    let item = item_told c.args.scope.now c.in-Some.each c.in-Some-item_below.i c.in-Some-2.item c.in_ok-item.field-0 c.in-Some-2.is c.in_ok-item.ensures.item in
+    (omega (arith, c.if-left-eq0.false), (within, (record { ready = c.requires.resumes.ready; same = same }, (item, (whole, (omega (arith, c.if-left-eq0.false, c.requires.shallow), (c.in-Some-item_below.ensures.item, was)))))))
 
-pub call-returns-in-Ok : goal.call-returns-in-Ok
-call-returns-in-Ok g t c =
+pub call-returns : goal.call-returns
+call-returns g t c =
     let m = c.args.self.now.walk.manifest.now in
     let A = g.R.Recorded.answers c.args.self.now.walk.recorded.now in
     let B = g.R.Recorded.answers c.args.self.now.before.now in
-    looped_again m A B c.args.self.now.walk.globals.now c.args.left (prefix_of c.args.of) c.args.place c.args.scope.now c.args.call.now c.args.old.now c.if-left-eq0.false c.requires.was (c.if-not-is_running.ensures refl) c.in-Some.each c.in-Ok.items c.args.room.now c.looped.new.room c.looped.result c.in-Some.is c.in-Ok.ensures.told c.looped.ensures
+    looped_again m A B c.args.self.now.walk.globals.now c.args.left (prefix_of c.args.of) c.args.place c.args.scope.now c.args.call.now c.args.old.now c.if-left-eq0.false c.requires.was (c.if-not-is_running.ensures refl) c.in-Some.each c.args.room.now c.looped.new.room c.looped.result c.in-Some.is c.looped.ensures
 
 pub called-entered-requires : goal.called-entered-requires
 called-entered-requires g t c κs within =
@@ -147,17 +149,9 @@ looped-returns-in_err-take_others g t c =
     let A = g.R.Recorded.answers c.args.self.now.walk.recorded.now in
     let B = g.R.Recorded.answers c.args.self.now.before.now in
     let scopes = c.args.self.now.walk.globals.now in
-    let whole = looped m A scopes (calls m A scopes c.args.left) (prefix_of c.args.of) c.args.place c.args.scope.now c.args.call.now (Ok c.args.items.now) in
+    let whole = looped m A scopes (calls m A scopes c.args.left) (prefix_of c.args.of) c.args.place c.args.scope.now c.args.call.now (items c.args.scope.now c.args.each.now) in
     by_err (λ r. Gives c.args.room.now c.take_others.new.room r whole) c.from_residual.result c.in_err-take_others.field-0.0 c.from_residual.ensures.1
-    (items_fail m A B scopes c.args.left (prefix_of c.args.of) c.args.place c.args.scope.now c.args.call.now c.args.items.now c.args.i c.args.rest.now c.requires.resumes.same c.args.old.now c.args.before.now c.requires.at c.requires.was c.args.room.now c.take_others.new.room c.in_err-take_others.field-0.0 c.in_err-take_others.ensures)
-
-pub looped-get-item-requires : goal.looped-get-item-requires
-looped-get-item-requires g t c =
-    let m = c.args.self.now.walk.manifest.now in
-    let A = g.R.Recorded.answers c.args.self.now.walk.recorded.now in
-    let B = g.R.Recorded.answers c.args.self.now.before.now in
-    let scopes = c.args.self.now.walk.globals.now in
-    item_low m A B scopes c.args.left (prefix_of c.args.of) c.args.place c.args.scope.now c.args.call.now c.args.items.now c.args.i c.args.rest.now c.requires.resumes.same c.args.old.now c.args.before.now c.requires.at c.requires.was
+    (items_fail m A B scopes c.args.left (prefix_of c.args.of) c.args.place c.args.scope.now c.args.call.now c.args.each.now c.args.i c.args.rest.now c.requires.resumes.same c.args.old.now c.args.before.now c.requires.at c.requires.was c.args.item.now c.requires.item c.args.room.now c.take_others.new.room c.in_err-take_others.field-0.0 c.in_err-take_others.ensures)
 
 pub looped-item-requires : goal.looped-item-requires
 looped-item-requires g t c κs within =
@@ -165,9 +159,8 @@ looped-item-requires g t c κs within =
     let A = g.R.Recorded.answers c.args.self.now.walk.recorded.now in
     let B = g.R.Recorded.answers c.args.self.now.before.now in
     let scopes = c.args.self.now.walk.globals.now in
-    let was = item_had m A B scopes c.args.left (prefix_of c.args.of) c.args.place c.args.scope.now c.args.call.now c.args.items.now c.args.i c.args.rest.now c.requires.resumes.same c.args.old.now c.args.before.now c.requires.at c.requires.was c.get-item.result.now c.get-item.ensures in
-    let whole = all_at (λ item. IsTrue (is_whole item)) c.args.items.now c.args.i c.get-item.result.now c.requires.whole c.get-item.ensures in
-    (omega arith, (within, (c.requires.resumes, (whole, (c.requires.shallow, was)))))
+    let was = item_had m A B scopes c.args.left (prefix_of c.args.of) c.args.place c.args.scope.now c.args.call.now c.args.each.now c.args.i c.args.rest.now c.requires.resumes.same c.args.old.now c.args.before.now c.requires.at c.requires.was c.args.item.now c.requires.item in
+    (omega arith, (within, (c.requires.resumes, (c.requires.whole, (c.requires.shallow, was)))))
 
 pub looped-returns-in_err-new : goal.looped-returns-in_err-new
 looped-returns-in_err-new g t c =
@@ -175,9 +168,9 @@ looped-returns-in_err-new g t c =
     let A = g.R.Recorded.answers c.args.self.now.walk.recorded.now in
     let B = g.R.Recorded.answers c.args.self.now.before.now in
     let scopes = c.args.self.now.walk.globals.now in
-    let whole = looped m A scopes (calls m A scopes c.args.left) (prefix_of c.args.of) c.args.place c.args.scope.now c.args.call.now (Ok c.args.items.now) in
+    let whole = looped m A scopes (calls m A scopes c.args.left) (prefix_of c.args.of) c.args.place c.args.scope.now c.args.call.now (items c.args.scope.now c.args.each.now) in
     by_err (λ r. Gives c.args.room.now c.item.new.room r whole) c.from_residual-in_err-new.result c.in_err-new.field-0.0 c.from_residual-in_err-new.ensures.1
-    (item_fails m A B scopes c.args.left (prefix_of c.args.of) c.args.place c.args.scope.now c.args.call.now c.args.items.now c.args.i c.args.rest.now c.requires.resumes.same c.args.old.now c.args.before.now c.requires.at c.requires.was c.get-item.result.now c.get-item.ensures c.args.room.now c.take_others.new.room c.item.new.room c.in_err-new.field-0.0 c.in_ok-take_others.ensures c.in_err-new.ensures)
+    (item_fails m A B scopes c.args.left (prefix_of c.args.of) c.args.place c.args.scope.now c.args.call.now c.args.each.now c.args.i c.args.rest.now c.requires.resumes.same c.args.old.now c.args.before.now c.requires.at c.requires.was c.args.item.now c.requires.item c.args.room.now c.take_others.new.room c.item.new.room c.in_err-new.field-0.0 c.in_ok-take_others.ensures c.in_err-new.ensures)
 
 pub looped-returns-then-runs_on : goal.looped-returns-then-runs_on
 looped-returns-then-runs_on g t c =
@@ -185,7 +178,7 @@ looped-returns-then-runs_on g t c =
     let A = g.R.Recorded.answers c.args.self.now.walk.recorded.now in
     let B = g.R.Recorded.answers c.args.self.now.before.now in
     let scopes = c.args.self.now.walk.globals.now in
-    item_put m A B scopes c.args.left (prefix_of c.args.of) c.args.place c.args.scope.now c.args.call.now c.args.items.now c.args.i c.args.rest.now c.requires.resumes.same c.args.old.now c.args.before.now c.requires.at c.requires.was c.get-item.result.now c.get-item.ensures c.in_ok-state.state c.in_ok-new.new c.in_ok-state.ensures c.args.room.now c.take_others.new.room c.item.new.room c.in_ok-take_others.ensures c.in_ok-new.ensures (c.runs_on.ensures.old c.if-runs_on.true) (c.runs_on.ensures.new c.if-runs_on.true)
+    item_put m A B scopes c.args.left (prefix_of c.args.of) c.args.place c.args.scope.now c.args.call.now c.args.each.now c.args.i c.args.rest.now c.requires.resumes.same c.args.old.now c.args.before.now c.requires.at c.requires.was c.args.item.now c.requires.item c.in_ok-state.state c.in_ok-new.new c.in_ok-state.ensures c.args.room.now c.take_others.new.room c.item.new.room c.in_ok-take_others.ensures c.in_ok-new.ensures (c.runs_on.ensures.old c.if-runs_on.true) (c.runs_on.ensures.new c.if-runs_on.true)
 
 pub looped-returns : goal.looped-returns
 looped-returns g t c =
@@ -193,7 +186,7 @@ looped-returns g t c =
     let A = g.R.Recorded.answers c.args.self.now.walk.recorded.now in
     let B = g.R.Recorded.answers c.args.self.now.before.now in
     let scopes = c.args.self.now.walk.globals.now in
-    items_listed m A B scopes c.args.left (prefix_of c.args.of) c.args.place c.args.scope.now c.args.call.now c.args.items.now c.args.i c.args.rest.now c.requires.resumes.same c.args.old.now c.args.before.now c.requires.at c.requires.was c.get-item.result.now c.get-item.ensures c.in_ok-state.state c.in_ok-new.new c.in_ok-state.ensures c.args.room.now c.take_others.new.room c.item.new.room c.in_ok-take_others.ensures c.in_ok-new.ensures c.in_ok-states.states c.in_ok-loop_of.field-0 c.in_ok-states.ensures c.in_ok-loop_of.ensures
+    items_listed m A B scopes c.args.left (prefix_of c.args.of) c.args.place c.args.scope.now c.args.call.now c.args.each.now c.args.i c.args.rest.now c.requires.resumes.same c.args.old.now c.args.before.now c.requires.at c.requires.was c.args.item.now c.requires.item c.in_ok-state.state c.in_ok-new.new c.in_ok-state.ensures c.args.room.now c.take_others.new.room c.item.new.room c.in_ok-take_others.ensures c.in_ok-new.ensures c.in_ok-states.states c.in_ok-loop_of.field-0 c.in_ok-states.ensures c.in_ok-loop_of.ensures
 
 pub item-one-requires : goal.item-one-requires
 item-one-requires g t c κs within =
@@ -646,6 +639,42 @@ tasks-loop-k-preserved g t c =
       room = subst (λ k. c.task.new.room + count_at (standings A called c.args.place.now c.args.scope.now c.args.dag.now) (take k c.args.plan.now.order) ≡ c.args.room.now) step (tasks_next A called c.args.place.now c.args.scope.now c.args.dag.now c.args.plan.now c.loop-k.k c.loop-k.room c.args.room.now c.task.new.room n low c.loop-k.invariant.room refl c.in_ok-task.ensures.1);
     }
 
+pub freed-returns-in-Some : goal.freed-returns-in-Some
+freed-returns-in-Some g t c =
+    let m = c.args.self.now.walk.manifest.now in
+    let A = g.R.Recorded.answers c.args.self.now.walk.recorded.now in
+    let B = g.R.Recorded.answers c.args.self.now.before.now in
+    let scopes = c.args.self.now.walk.globals.now in
+    let called = calls m A scopes c.args.left in
+    let seen = seen_by A called c.args.place.now c.args.scope.now c.args.dag.now c.args.task.now in
+    let inner = seen ++ c.args.scope.now in
+    let at = task_place c.args.place.now c.args.i c.args.task.now in
+    let begins = not c.args.dag.now.fail_fast || A.begun at.sels in
+    let on = had_begun m A B scopes c.args.left c.args.place.now c.args.scope.now c.args.dag.now c.args.plan.now c.requires.plan c.args.j c.args.were.now c.requires.were c.args.rest.now c.requires.resumes.same c.args.i c.args.task.now c.requires.turn.task c.in-Some.old.now c.in-Some.ensures begins c.requires.free in
+    let begun = begins_now A called c.args.place.now at c.args.scope.now c.args.dag.now c.args.i c.args.task.now (stands_at A called c.args.place.now c.args.scope.now c.args.dag.now c.args.i) seen begins c.requires.free refl refl on in
+    let is = stays_as m A B scopes c.args.left c.args.place.now c.args.scope.now c.args.dag.now c.args.plan.now c.requires.plan c.args.j c.args.were.now c.requires.were c.args.rest.now c.requires.resumes.same c.args.i c.args.task.now c.requires.turn.task c.in-Some.old.now c.in-Some.ensures begun in
+    task_begun A called (alike m A scopes c.args.left) c.args.place.now c.args.scope.now c.args.dag.now c.args.plan.now c.args.k c.args.i c.args.task.now c.requires.turn at refl c.requires.free begins refl on inner (λ tag. refl) c.args.board.now c.begin.new.self c.in_ok-same.same c.args.room.now c.shared.new.room c.requires.board
+    (gives_as c.args.room.now c.shared.new.room (Ok c.in_ok-same.same) c.in-Some.old.now (called (codes "tasks.") at inner c.args.task.now.call) is c.in_ok-same.ensures)
+    c.in_ok-begin.ensures
+
+pub freed-returns-in_err-same : goal.freed-returns-in_err-same
+freed-returns-in_err-same g t c =
+    let m = c.args.self.now.walk.manifest.now in
+    let A = g.R.Recorded.answers c.args.self.now.walk.recorded.now in
+    let B = g.R.Recorded.answers c.args.self.now.before.now in
+    let scopes = c.args.self.now.walk.globals.now in
+    let called = calls m A scopes c.args.left in
+    let seen = seen_by A called c.args.place.now c.args.scope.now c.args.dag.now c.args.task.now in
+    let inner = seen ++ c.args.scope.now in
+    let at = task_place c.args.place.now c.args.i c.args.task.now in
+    let begins = not c.args.dag.now.fail_fast || A.begun at.sels in
+    let on = had_begun m A B scopes c.args.left c.args.place.now c.args.scope.now c.args.dag.now c.args.plan.now c.requires.plan c.args.j c.args.were.now c.requires.were c.args.rest.now c.requires.resumes.same c.args.i c.args.task.now c.requires.turn.task c.in-Some.old.now c.in-Some.ensures begins c.requires.free in
+    let begun = begins_now A called c.args.place.now at c.args.scope.now c.args.dag.now c.args.i c.args.task.now (stands_at A called c.args.place.now c.args.scope.now c.args.dag.now c.args.i) seen begins c.requires.free refl refl on in
+    let is = stays_as m A B scopes c.args.left c.args.place.now c.args.scope.now c.args.dag.now c.args.plan.now c.requires.plan c.args.j c.args.were.now c.requires.were c.args.rest.now c.requires.resumes.same c.args.i c.args.task.now c.requires.turn.task c.in-Some.old.now c.in-Some.ensures begun in
+    by_err (λ r. GivesTask c.args.room.now c.shared.new.room r (IsBoard A called c.args.place.now c.args.scope.now c.args.dag.now (take (suc c.args.k) c.args.plan.now.order) c.args.board.now) (stood_count (stands_at A called c.args.place.now c.args.scope.now c.args.dag.now c.args.i))) c.from_residual.result c.in_err-same.field-0.0 c.from_residual.ensures.1
+    (task_fails A called (alike m A scopes c.args.left) c.args.place.now c.args.scope.now c.args.dag.now c.args.plan.now c.args.k c.args.i c.args.task.now c.requires.turn at refl c.requires.free begins refl on inner (λ tag. refl) c.args.board.now c.args.room.now c.shared.new.room c.in_err-same.field-0.0
+    (gives_as c.args.room.now c.shared.new.room (Err c.in_err-same.field-0.0) c.in-Some.old.now (called (codes "tasks.") at inner c.args.task.now.call) is c.in_err-same.ensures))
+
 pub freed-begun-requires : goal.freed-begun-requires
 freed-begun-requires g t c κs within =
     let m = c.args.self.now.walk.manifest.now in
@@ -690,9 +719,9 @@ freed-returns g t c =
     let seen = seen_by A called c.args.place.now c.args.scope.now c.args.dag.now c.args.task.now in
     let inner = seen ++ c.args.scope.now in
     let here = ap (λ (p : Place). called (codes "tasks.") p inner c.args.task.now.call) (sym c.in_ok-at.ensures) in
-    task_begun A called (alike m A scopes c.args.left) c.args.place.now c.args.scope.now c.args.dag.now c.args.plan.now c.args.k c.args.i c.args.task.now c.requires.turn c.in_ok-at.at c.in_ok-at.ensures c.requires.free c.begins.result c.begins.ensures c.if-not-begins.false inner (λ tag. refl) c.args.board.now c.begin.new.self c.in_ok-made.made c.args.room.now c.begun.new.room c.requires.board
+    task_begun A called (alike m A scopes c.args.left) c.args.place.now c.args.scope.now c.args.dag.now c.args.plan.now c.args.k c.args.i c.args.task.now c.requires.turn c.in_ok-at.at c.in_ok-at.ensures c.requires.free c.begins.result c.begins.ensures c.if-not-begins.false inner (λ tag. refl) c.args.board.now c.begin-2.new.self c.in_ok-made.made c.args.room.now c.begun.new.room c.requires.board
     (gives_as c.args.room.now c.begun.new.room (Ok c.in_ok-made.made) (called (codes "tasks.") (task_place c.args.place.now c.args.i c.args.task.now) inner c.args.task.now.call) (called (codes "tasks.") c.in_ok-at.at inner c.args.task.now.call) here c.in_ok-made.ensures)
-    c.in_ok-begin.ensures
+    c.in_ok-begin-2.ensures
 
 pub begun-inside-requires : goal.begun-inside-requires
 begun-inside-requires g t c κs within =
@@ -701,18 +730,6 @@ begun-inside-requires g t c κs within =
     let called = calls m A c.args.self.now.walk.globals.now c.args.left in
     let values = c.in_ok-inner.ensures A called c.args.place.now c.args.scope.now c.args.k c.args.task.now c.requires.board c.requires.turn in
     (omega arith, (within, (c.requires.resumes, (c.requires.plan, (c.requires.turn.task, (c.requires.place, (c.requires.at, (values, (c.requires.shallow, c.requires.were)))))))))
-
-pub begun-returns-in-Some : goal.begun-returns-in-Some
-begun-returns-in-Some g t c =
-    let m = c.args.self.now.walk.manifest.now in
-    let A = g.R.Recorded.answers c.args.self.now.walk.recorded.now in
-    let B = g.R.Recorded.answers c.args.self.now.before.now in
-    let scopes = c.args.self.now.walk.globals.now in
-    let called = calls m A scopes c.args.left in
-    let seen = seen_by A called c.args.place.now c.args.scope.now c.args.dag.now c.args.task.now in
-    gives_as c.args.room.now c.shared.new.room c.shared.result c.in-Some.old.now (called (codes "tasks.") (task_place c.args.place.now c.args.i c.args.task.now) (seen ++ c.args.scope.now) c.args.task.now.call)
-    (stays_as m A B scopes c.args.left c.args.place.now c.args.scope.now c.args.dag.now c.args.plan.now c.requires.plan c.args.j c.args.were.now c.requires.were c.args.rest.now c.requires.resumes.same c.args.i c.args.task.now c.requires.turn.task c.in-Some.old.now c.in-Some.ensures c.requires.begun)
-    c.shared.ensures
 
 pub begun-returns-in_err-state : goal.begun-returns-in_err-state
 begun-returns-in_err-state g t c =

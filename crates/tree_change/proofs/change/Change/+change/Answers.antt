@@ -1,21 +1,24 @@
 -- The way up: what changes below changes each node above.
-use Rattle.std.proofs.Common.{◌≡◌, ℕ, List, ◌++◌, false, Some, codes, refl, sym, ap, ◌∙◌, subst}
+use Rattle.std.proofs.Common.{◌≡◌, ℕ, List, ◌++◌, false, Some, codes, refl, sym, ap, ◌∙◌, subst, arith}
 use Rattle.std.specs.Prelude.{is_some, ◌&&◌, slice_get}
-use Rattle.tree_types.specs.declared.path.Sel.TheVariants.{Group, Step, Item}
+use Rattle.tree_types.specs.declared.path.Sel.TheVariants.{Group, Step, Item, Task as task_sel}
 use Rattle.tree_types.specs.declared.phase.Phase.{Phase}
 use Rattle.wf_manifest.specs.declared.calls.Call.{Call}
 use Rattle.wf_manifest.specs.declared.templates.Template.{Template}
 use Rattle.meaning.specs.Answers.{Sels}
 use Rattle.meaning.specs.Lines.{Made, row_in, lines_in, all_finished}
 use Rattle.meaning.specs.Steps.{member_place, members, group_made, group_place, steps_made}
+use Rattle.meaning.specs.Dags.{task_place, dag_made}
 use Rattle.meaning.specs.Calls.{template_named, hook_runs, template_made, one_made, calls}
 use Rattle.tree_types.specs.Places.{sels_eq}
+use Rattle.growth.proofs.RoundsSettle.{rounds_settle}
 use Rattle.locality.proofs.OffPath.{apart_on_way}
+use Rattle.dag_stays.proofs.RunsOn.{dag_was_running, dag_runs_on}
 use Rattle.tree_change.specs.Asking.{AsksNoMore}
 use Rattle.tree_change.specs.Entered.{IsRunning}
 use Rattle.tree_change.proofs.Asking.{call_asks, item_asks}
-use Rattle.tree_change.proofs.Changing.{steps_were, group_changes, steps_change, steps_template_changes, one_changes, call_changes, loop_changes}
-use Rattle.tree_change.proofs.Given.{given_by, given_some, begins, further, some_same}
+use Rattle.tree_change.proofs.Changing.{steps_were, group_changes, steps_change, steps_template_changes, dag_were, dag_template_changes, one_changes, call_changes, loop_changes}
+use Rattle.tree_change.proofs.Given.{given_by, given_some, begins, further, some_same, no_circle_found, ranked_dag, fits_found}
 use Rattle.tree_change.proofs.change.Change.+change.Goals as goal
 
 pub call-returns-in_default-clause-makes : goal.call-returns-in_default-clause-makes
@@ -60,6 +63,51 @@ template-returns-in-Steps-clause-makes g t c B changed g' left place inner same 
     given_by c.steps.result (λ (i : Unit {0}) z. (z ≡ steps_made (calls m A g' left) place inner u.outputs gs) × IsRunning z × (sels_eq place.sels changed ≡ false)) (λ z. z ≡ template_made A (calls m A g' left) place inner u)
     (λ i. c.steps.ensures.makes B changed g' left place inner u.outputs same way were runs)
     (λ z new. sym (steps_template_changes m A B changed same g' left place inner u gs old z is runs c.in-Steps.is (new tt).2 (λ w. ((new tt).0, (new tt).1))))
+
+pub one-template-requires : goal.one-template-requires
+one-template-requires g t c κs within =
+    (omega arith, (within, (c.requires, (no_circle_found c.args.self.now.manifest.now c.args.call.now.template c.in-Some.template.now c.requires.valid c.in-Some.ensures, (fits_found c.args.self.now.manifest.now c.args.call.now.template c.in-Some.template.now c.requires.valid c.in-Some.ensures, c.if-not-is_running.ensures refl)))))
+
+pub template-dag-requires : goal.template-dag-requires
+template-dag-requires g t c κs within = (omega arith, (within, (c.requires.ready, ranked_dag c.args.template.now c.in-Dag.dag c.requires.circle c.in-Dag.is)))
+
+pub template-returns-in-Dag-clause-makes : goal.template-returns-in-Dag-clause-makes
+template-returns-in-Dag-clause-makes g t c B changed g' left place inner same way is =
+    let m = c.args.self.now.manifest.now in
+    let A = g.R.Recorded.answers c.args.self.now.recorded.now in
+    let u = c.args.template.now in
+    let d = c.in-Dag.dag in
+    let old = c.args.old.now in
+    let runs = c.requires.runs in
+    let were : old ≡ dag_made B (calls m B g' left) place inner u.outputs d = dag_were m A B changed same g' left place inner u d old is runs c.in-Dag.is in
+    given_by c.dag.result (λ (i : Unit {0}) z. (z ≡ dag_made A (calls m A g' left) place inner u.outputs d) × IsRunning z × (sels_eq place.sels changed ≡ false)) (λ z. z ≡ template_made A (calls m A g' left) place inner u)
+    (λ i. c.dag.ensures.makes B changed g' left place inner u.outputs same way were)
+    (λ z new. sym (dag_template_changes m A B changed same g' left place inner u d old z is runs c.in-Dag.is (new tt).2 (λ w. ((new tt).0, (new tt).1))))
+
+pub dag-returns-clause-makes : goal.dag-returns-clause-makes
+dag-returns-clause-makes g t c B changed g' left place scope declared same way is =
+    let m = c.args.self.now.manifest.now in
+    let A = g.R.Recorded.answers c.args.self.now.recorded.now in
+    let d = c.args.dag.now in
+    let j = c.in-Task.j in
+    let old = c.args.old.now in
+    let others = c.in-Some.others.now in
+    let task = c.in-Some-item_at.task.now in
+    let at = c.in-Some-call_of_task.at in
+    let one = c.in-Some-call_of_task.made.now in
+    let z = c.in-Some-2.new in
+    let here = begins changed place.sels c.in-Some.first (task_sel j) c.args.rest.now others way c.in-Some.ensures c.in-Task.is in
+    let off : one.own.finished ≡ false = sym c.is_finished.ensures ∙ c.if-is_finished.false in
+    let off_now : z.own.finished ≡ false = sym c.is_finished-2.ensures ∙ c.if-is_finished-2.false in (
+      c.in_ok-with_call.ensures
+          ∙ sym (dag_runs_on m A B changed same g' left rounds_settle place scope declared d c.requires.ranked at j others old one z task here is (sym c.in-Some-item_at.ensures)
+          c.in-Some-call_of_task.ensures.call c.in-Some-call_of_task.ensures.task off off_now (sym c.has_begun.ensures ∙ c.if-not-has_begun.false)
+          (λ s was. sym (given_some c.in_ok-new.field-0 z (λ y. y ≡ calls m A g' left (codes "tasks.") (task_place place j task) (s ++ scope) task.call) c.in-Some-2.is
+          (c.in_ok-new.ensures.makes B changed g' left (codes "tasks.") (task_place place j task) (s ++ scope) same (further changed place.sels (task_sel j) others here) was)))),
+      ap (λ (b : Made). b.own.node.phase) c.in_ok-with_call.ensures
+          ∙ dag_was_running m A B changed same g' left rounds_settle place scope declared d c.requires.ranked at j old one is c.in-Some-call_of_task.ensures.call c.in-Some-call_of_task.ensures.task off,
+      apart_on_way A B changed same place.sels others (task_sel j) here,
+    )
 
 pub steps-returns-clause-makes : goal.steps-returns-clause-makes
 steps-returns-clause-makes g t c B changed g' left place scope declared same way is runs =
@@ -116,17 +164,21 @@ item-returns-clause-makes g t c l B changed g' left prefix place scope same way 
 -- ---- what is asked for
 
 pub item-returns-clause-keeps : goal.item-returns-clause-keeps
-item-returns-clause-keeps g t c =
-    item_asks c.args.old.now c.in_ok-state.state c.in-Some.item.now c.in-Some-2.new c.args.i c.in_ok-new.field-0 c.in_ok-state.ensures c.in-Some.ensures c.in-Some-2.is c.in_ok-new.ensures.keeps
+item-returns-clause-keeps g t c quiet =
+    item_asks c.args.old.now c.in_ok-state.state c.in-Some.item.now c.in-Some-2.new c.args.i c.in_ok-new.field-0 c.in_ok-state.ensures c.in-Some.ensures c.in-Some-2.is (c.in_ok-new.ensures.keeps quiet)
 
 pub one-returns-clause-keeps : goal.one-returns-clause-keeps
-one-returns-clause-keeps g t c =
-    given_some c.in_ok-new.field-0 c.in-Some-2.new (λ y. AsksNoMore (lines_in y) (lines_in c.args.old.now)) c.in-Some-2.is c.in_ok-new.ensures.keeps
+one-returns-clause-keeps g t c quiet =
+    given_some c.in_ok-new.field-0 c.in-Some-2.new (λ y. AsksNoMore (lines_in y) (lines_in c.args.old.now)) c.in-Some-2.is (c.in_ok-new.ensures.keeps quiet)
 
 pub steps-returns-clause-keeps : goal.steps-returns-clause-keeps
-steps-returns-clause-keeps g t c =
-    call_asks c.args.old.now c.in_ok-with_call.field-0 c.in-Some-call_at.group.now c.in-Some-2.new c.in-Group.i c.in_ok-new.field-0 c.in_ok-with_call.ensures c.in-Some-call_at.ensures c.in-Some-2.is c.in_ok-new.ensures.keeps
+steps-returns-clause-keeps g t c quiet =
+    call_asks c.args.old.now c.in_ok-with_call.field-0 c.in-Some-call_at.group.now c.in-Some-2.new c.in-Group.i c.in_ok-new.field-0 c.in_ok-with_call.ensures c.in-Some-call_at.ensures c.in-Some-2.is (c.in_ok-new.ensures.keeps quiet)
 
 pub group-returns-clause-keeps : goal.group-returns-clause-keeps
-group-returns-clause-keeps g t c =
-    call_asks c.args.old.now c.in_ok-state.state c.in-Some-call_at.member.now c.in-Some-2.new c.in-Step.j c.in_ok-new.field-0 c.in_ok-state.ensures c.in-Some-call_at.ensures c.in-Some-2.is c.in_ok-new.ensures.keeps
+group-returns-clause-keeps g t c quiet =
+    call_asks c.args.old.now c.in_ok-state.state c.in-Some-call_at.member.now c.in-Some-2.new c.in-Step.j c.in_ok-new.field-0 c.in_ok-state.ensures c.in-Some-call_at.ensures c.in-Some-2.is (c.in_ok-new.ensures.keeps quiet)
+
+pub dag-returns-clause-keeps : goal.dag-returns-clause-keeps
+dag-returns-clause-keeps g t c quiet =
+    call_asks c.args.old.now c.in_ok-with_call.field-0 c.in-Some-call_of_task.made.now c.in-Some-2.new c.in-Some-call_of_task.at c.in_ok-new.field-0 c.in_ok-with_call.ensures (sym c.in-Some-call_of_task.ensures.call) c.in-Some-2.is (c.in_ok-new.ensures.keeps quiet)

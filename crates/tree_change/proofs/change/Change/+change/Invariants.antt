@@ -19,3 +19,6 @@ decreases-steps g l = 8 * length l.rest.now + 3
 
 abbrev pub decreases-group : goal.decreases-group
 decreases-group g l = 8 * length l.rest.now + 8
+
+abbrev pub decreases-dag : goal.decreases-dag
+decreases-dag g l = 8 * length l.rest.now + 3

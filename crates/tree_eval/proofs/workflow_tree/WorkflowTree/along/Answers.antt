@@ -26,8 +26,8 @@ returns-clause-meant g c =
     (runs_on m A now main made unfinished, few_nodes m A now main made unfinished (omega (arith, c.count.ensures.all, c.if-count-gt-MOST_NODES.false)))
 
 pub returns-clause-keeps : goal.returns-clause-keeps
-returns-clause-keeps g c =
+returns-clause-keeps g c on =
     let old = c.self.inside.tops.main in
     let main = c.in-Some-2.main in
     asks_no_more c.args.self.now old main c.self.inside.tops.exit (ap (λ w. w.main) c.self.view_is) (ap (λ w. w.exit) c.self.view_is) c.if-is_some.ensures
-    (subst (λ (o : Option Made). IfGiven (Ok o) (λ z. AsksNoMore (lines_in z) (lines_in old))) c.in-Some-2.is c.in_ok-main.ensures.keeps)
+    (subst (λ (o : Option Made). IfGiven (Ok o) (λ z. AsksNoMore (lines_in z) (lines_in old))) c.in-Some-2.is (c.in_ok-main.ensures.keeps on))
