@@ -5,7 +5,7 @@ use books::LockState;
 use history_text::{HistoryRefused, read_history};
 use std::alloc::Global;
 use sync_locks::LockBook;
-use tree_types::{Entries, Entry, Limit, Limits, LockId};
+use tree_types::{Entries, Entry, HolderKey, Limit, Limits, LockId};
 
 const LOCK: &str = "semaphore/cm/k";
 
@@ -78,12 +78,15 @@ fn take(book: &mut LockBook, entry: &Entry) -> Result<bool, Memory> {
     }
 }
 
-fn letter(state: Option<LockState>) -> &'static str {
-    match state {
-        Some(LockState::Waiting) => "w",
-        Some(LockState::Holding) => "h",
-        Some(LockState::Released) => "r",
-        None => "-",
+/// How the request of a key stands. That one holds its lock is asked of the holders, too.
+fn letter(book: &LockBook, key: &HolderKey) -> &'static str {
+    let holds = book.holds(&key.workflow, &key.path);
+    match book.state(key) {
+        Some(LockState::Waiting) if !holds => "w",
+        Some(LockState::Holding) if holds => "h",
+        Some(LockState::Released) if !holds => "r",
+        None if !holds => "-",
+        _ => "?",
     }
 }
 
@@ -91,7 +94,7 @@ fn letter(state: Option<LockState>) -> &'static str {
 fn add_standing(shown: &mut String, book: &LockBook, entries: &Entries) -> Result<(), Memory> {
     for entry in entries.iter() {
         if let Entry::File { key, .. } = entry {
-            shown.push_str(letter(book.state(key)))?;
+            shown.push_str(letter(book, key))?;
         }
     }
     Ok(())
@@ -150,6 +153,71 @@ fn keeps_books(rt: HostRuntime) {
         assert!(rt;
             stand(rt.alloc(), lock, limit, lines, standing) == Ok(true),
             "{lines}"
+        );
+    }
+}
+
+/// The filings of so many workflows, one each.
+fn crowd(alloc: Global, count: u32) -> Result<String, Memory> {
+    let mut lines = String::new(alloc);
+    for i in 0..count {
+        let line = format!(in alloc;
+            "[\"file\",\"semaphore/cm/k\",\"w{i}\",\"\",[0,{i},\"w{i}\"]]\n"
+        )?;
+        lines.push_str(line.as_str())?;
+    }
+    Ok(lines)
+}
+
+fn sign(may_hold: bool) -> &'static str {
+    if may_hold { "+" } else { "." }
+}
+
+/// How each of some requests stands, with a sign for what is told of its workflow; and the sign of a workflow without one.
+fn shown(alloc: Global, book: &LockBook, entries: &Entries) -> Result<String, Memory> {
+    let mut shown = String::new(alloc);
+    for entry in entries.iter() {
+        if let Entry::File { key, .. } = entry {
+            shown.push_str(letter(book, key))?;
+            shown.push_str(sign(book.may_hold(&key.workflow)))?;
+        }
+    }
+    let stranger = Text::from_text(alloc, "x")?;
+    shown.push_str(sign(book.may_hold(&stranger)))?;
+    Ok(shown)
+}
+
+/// The same of so many requests under a limit.
+fn holders(alloc: Global, count: u32, limit: u64) -> Result<String, HistoryRefused> {
+    let lines = crowd(alloc, count)?;
+    let entries = read_history(alloc, lines.as_bytes())?;
+    let mut book = book_of(alloc, LOCK, limit)?;
+    for entry in entries.iter() {
+        take(&mut book, entry)?;
+    }
+    Ok(shown(alloc, &book, &entries)?)
+}
+
+/// A workflow may hold a lock where a request of it does, or where more than 32 hold.
+#[test]
+fn tells_holders(rt: HostRuntime) {
+    for (count, limit, told) in [
+        (0u32, 9u64, "."),
+        (3, 2, "h+h+w.."),
+        (
+            34,
+            32,
+            "h+h+h+h+h+h+h+h+h+h+h+h+h+h+h+h+h+h+h+h+h+h+h+h+h+h+h+h+h+h+h+h+w.w..",
+        ),
+        (
+            34,
+            33,
+            "h+h+h+h+h+h+h+h+h+h+h+h+h+h+h+h+h+h+h+h+h+h+h+h+h+h+h+h+h+h+h+h+h+w++",
+        ),
+    ] {
+        assert!(rt;
+            matches!(holders(rt.alloc(), count, limit), Ok(shown) if shown.as_str() == told),
+            "{told}"
         );
     }
 }

@@ -10,3 +10,4 @@ pub mod Lines
 pub mod Kept
 pub mod Released
 pub mod Events
+pub mod Holders

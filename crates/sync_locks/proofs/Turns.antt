@@ -19,11 +19,11 @@ use Rattle.sync_locks.proofs.Sums.{is_listed}
 
 -- ---- tests
 
-none_at : (test : Request → Bool) (rs : List Request) → ((i : ℕ) (r : Request) → slice_get rs i ≡ Some r → test r ≡ false) → list_any test rs ≡ false
+pub none_at : (test : Request → Bool) (rs : List Request) → ((i : ℕ) (r : Request) → slice_get rs i ≡ Some r → test r ≡ false) → list_any test rs ≡ false
 none_at test [] h = refl
 none_at test (r ∷ rs) h = ap₂ ◌||◌ (h 0 r refl) (none_at test rs (λ i q e. h (suc i) q e))
 
-any_at : (test : Request → Bool) (rs : List Request) (i : ℕ) (r : Request) → slice_get rs i ≡ Some r → test r ≡ true → list_any test rs ≡ true
+pub any_at : (test : Request → Bool) (rs : List Request) (i : ℕ) (r : Request) → slice_get rs i ≡ Some r → test r ≡ true → list_any test rs ≡ true
 any_at test [] i r e t = absurd (cc e)
 any_at test (q ∷ rs) zero r e t = ap (λ (b : Bool). b || list_any test rs) (ap test (some_same q r e) ∙ t)
 any_at test (q ∷ rs) (suc i) r e t = by (test q) (any_at test rs i r e t)

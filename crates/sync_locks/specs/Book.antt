@@ -1,5 +1,6 @@
 -- What contracts see of a lock book, and what they say of it.
-use Rattle.std.specs.Prelude.{List, [], Option, option_map}
+use Rattle.std.specs.Prelude.{ℕ, Bool, false, ◌&&◌, ◌||◌, nat_lt, bytes_eq, List, [], Option, Some, None, option_map}
+use Rattle.std.specs.List.{list_any}
 use Rattle.tree_types.specs.declared.path.Path.{Path}
 use Rattle.tree_types.specs.declared.path.LockId.{LockId}
 use Rattle.tree_types.specs.declared.entry.HolderKey.{HolderKey}
@@ -7,7 +8,7 @@ use Rattle.tree_types.specs.declared.entry.Limit.{Limit}
 use Rattle.tree_types.specs.declared.entry.Rank.{Rank}
 use Rattle.books.specs.declared.Request.{Request}
 use Rattle.books.specs.declared.LockState.{LockState}
-use Rattle.books.specs.Books.{Text, filed, freed, request_of}
+use Rattle.books.specs.Books.{Text, is_holding, count, filed, freed, request_of}
 
 -- the limits, and the requests in order of filing
 pub record Book : Type 0 where
@@ -31,6 +32,32 @@ state_in key rs = option_map (λ (r : Request). r.state) (request_of rs key)
 
 abbrev pub key_by : Text → Path → HolderKey
 key_by workflow path = record { workflow = workflow; path = path }
+
+-- there is one, and it holds its lock
+abbrev pub holds : Option Request → Bool
+holds None = false
+holds (Some r) = is_holding r.state
+
+-- the request of a key holds its lock
+abbrev pub is_held : HolderKey → List Request → Bool
+is_held key rs = holds (request_of rs key)
+
+-- so many that hold are looked at one by one
+abbrev pub few : ℕ
+few = 32
+
+abbrev pub holds_now : Request → Bool
+holds_now r = is_holding r.state
+
+abbrev pub has_many_holders : List Request → Bool
+has_many_holders rs = nat_lt few (count holds_now rs)
+
+abbrev pub is_of_workflow : Text → Request → Bool
+is_of_workflow workflow r = bytes_eq workflow r.key.workflow
+
+-- a request of this workflow holds its lock, or more hold than are looked at
+abbrev pub may_hold : Text → List Request → Bool
+may_hold workflow rs = has_many_holders rs || list_any (λ r. holds_now r && is_of_workflow workflow r) rs
 
 -- which lock a key asked for, and how its request stands
 abbrev pub standing : Request → LockId × LockState

@@ -16,10 +16,10 @@ pub(crate) struct Asked {
 }
 
 impl Asked {
-    // Whether it is of the key of these parts.
+    // Whether it is of the key of these parts. Those that are compared are mostly of other paths, and often of the same workflow.
     pub(crate) fn is_by(&self, workflow: &Text, path: &Path) -> bool
         ensures { result ≡ books.key_eq (key_by workflow.now path.now) self.now.key }
     {
-        *workflow == self.key.workflow && *path == self.key.path
+        *path == self.key.path && *workflow == self.key.workflow
     }
 }

@@ -40,10 +40,11 @@ impl Model for LockBook {
 }
 
 impl LockBook {
-    ghost use Rattle.std.specs.Prelude.{◌≡◌, ◌↔◌, ◌≤◌, IsOk, IsErrOf, IfOk, OnOk, OnErr, IsSome, option_map};
+    ghost use Rattle.std.specs.Prelude.{◌≡◌, ◌↔◌, ◌≤◌, IsOk, IsErrOf, IfOk, OnOk, OnErr, IsSome, option_map, false};
+    ghost use Rattle.tree_types.specs.declared.path.Path.{Path as Place};
     ghost use Rattle.books.specs.Books as books;
     ghost use Rattle.books.specs.Laws.{IsWellKept};
-    ghost use Rattle.sync_locks.specs.Book.{unfilled, with_filed, with_freed, state_in, key_by, standing_of};
+    ghost use Rattle.sync_locks.specs.Book.{unfilled, with_filed, with_freed, state_in, is_held, may_hold, key_by, standing_of};
 
     /// The book without requests.
     pub fn new(limits: Limits) -> Result<LockBook, Memory>
@@ -98,6 +99,22 @@ impl LockBook {
         ensures { result ≡ state_in key.now self.now.requests }
     {
         self.requests.state_in(key)
+    }
+
+    /// Whether the request of a path of a workflow holds its lock. Where few requests hold, it looks at those alone.
+    pub fn holds(&self, workflow: &Text, path: &Path) -> bool
+        ensures { result ≡ is_held (key_by workflow.now path.now) self.now.requests }
+    {
+        self.requests.holds(workflow, path)
+    }
+
+    /// Whether a request of a workflow holds its lock, or more hold than it looks at. Where neither is so, no path of the
+    /// workflow holds a lock.
+    pub fn may_hold(&self, workflow: &Text) -> bool
+        ensures is { result ≡ may_hold workflow.now self.now.requests }
+        ensures none { result ≡ false → (path : Place) → is_held (key_by workflow.now path) self.now.requests ≡ false }
+    {
+        self.requests.may_hold(workflow)
     }
 
     /// Which lock a path of a workflow asked for, and how its request stands.

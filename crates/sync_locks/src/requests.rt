@@ -1,12 +1,12 @@
 //! The requests of a book, and the looks for some of them.
 
 ghost use Rattle.std.specs.Prelude.{◌≡◌, ◌<◌, ◌≤◌, length, List, [], ◌∷◌, ◌++◌, IfOk, OnOk, OnErr, MatchOption, option_map, Some, nat_lt, slice_get, slice_set};
-ghost use Rattle.std.specs.List.{find};
+ghost use Rattle.std.specs.List.{find, list_any};
 ghost use Rattle.books.specs.declared.Request.{Request};
 ghost use Rattle.books.specs.Books as books;
 ghost use Rattle.books.specs.Laws as laws;
 ghost use Rattle.buckets.specs.Buckets.{buckets};
-ghost use Rattle.sync_locks.specs.Book.{state_in, key_by, standing_of};
+ghost use Rattle.sync_locks.specs.Book.{state_in, is_held, is_of_workflow, has_many_holders, may_hold, key_by, standing_of};
 ghost use Rattle.sync_locks.specs.Inside.Queues as queues;
 ghost use Rattle.sync_locks.specs.Inside.Rows as rows;
 ghost use Rattle.sync_locks.specs.Inside.Tables.{places_of};
@@ -21,6 +21,9 @@ use sharing::{Row, SharedList};
 use std::alloc::Global;
 use std::marker::Model;
 use tree_types::{HolderKey, LockId, Path};
+
+// So many holders at most are looked at one by one, which costs less than to look for one request.
+const FEW: usize = 32;
 
 // The places of the requests whose keys belong to one bucket, in order.
 type Bucket = Row<u64>;
@@ -162,6 +165,68 @@ impl Requests {
             None => None,
             Some(place) => Some(self.state(place)),
         }
+    }
+
+    // Whether the request at one of these places is of the key of these parts.
+    fn is_among(&self, places: &[usize], workflow: &Text, path: &Path) -> bool
+        ensures { result ≡ list_any (rows.is_at (laws.is_of (key_by workflow.now path.now)) self.now) places.now }
+    {
+        for place in places {
+            if self.is_by(*place, workflow, path) {
+                return true;
+            }
+        }
+        false
+    }
+
+    // Whether more requests hold their locks than are looked at one by one.
+    fn has_many_holders(&self) -> bool
+        ensures { result ≡ has_many_holders self.now }
+    {
+        self.holding.len() > FEW
+    }
+
+    // Whether the request of the key of these parts holds its lock. Where few hold, these alone are looked at.
+    pub(crate) fn holds(&self, workflow: &Text, path: &Path) -> bool
+        requires { laws.KeysDiffer self.now }
+        ensures { result ≡ is_held (key_by workflow.now path.now) self.now }
+    {
+        if !self.has_many_holders() {
+            return self.is_among(self.holding.as_slice(), workflow, path);
+        }
+        match self.find(workflow, path) {
+            None => false,
+            Some(place) => matches!(self.state(place), LockState::Holding),
+        }
+    }
+
+    // Whether the request at one of these places is of a workflow.
+    fn has_of(&self, places: &[usize], workflow: &Text) -> bool
+        ensures { result ≡ list_any (rows.is_at (is_of_workflow workflow.now) self.now) places.now }
+    {
+        for place in places {
+            if self.is_of(*place, workflow) {
+                return true;
+            }
+        }
+        false
+    }
+
+    // Whether the request at a place is of a workflow.
+    fn is_of(&self, place: usize, workflow: &Text) -> bool
+        ensures { result ≡ rows.is_at (is_of_workflow workflow.now) self.now place }
+    {
+        match self.asked.get(place) {
+            None => false,
+            Some(asked) => *workflow == asked.key.workflow,
+        }
+    }
+
+    // Whether a request of a workflow holds its lock, or more hold than are looked at.
+    pub(crate) fn may_hold(&self, workflow: &Text) -> bool
+        ensures { result ≡ may_hold workflow.now self.now }
+    {
+        self.has_many_holders() || self.has_of(self.holding.as_slice(), workflow)
     }
 
     // Which lock the key of these parts asked for, and how its request stands.

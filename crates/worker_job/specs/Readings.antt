@@ -1,16 +1,17 @@
 -- A reading of a worker: its views with the workflow among them, and what the steps of `next_step` make of it.
-use Rattle.std.specs.Prelude.{ℕ, List, [], ◌∷◌, Bool, false, bytes_eq, Option, Some, option_map}
+use Rattle.std.specs.Prelude.{ℕ, List, [], ◌∷◌, Bool, false, bytes_eq, Option, Some, option_map, None}
 use Rattle.std.specs.List.{list_any}
 use Rattle.tree_types.specs.declared.path.Path.{Path}
 use Rattle.tree_types.specs.declared.path.LockId.{LockId}
 use Rattle.tree_types.specs.declared.node.Node.{Node}
 use Rattle.tree_types.specs.declared.want.Want.{Want}
 use Rattle.saves.specs.declared.Saved.{Saved}
+use Rattle.sync_locks.specs.Book as locks
 use Rattle.sync_locks.specs.Book.{standing}
 use Rattle.books.specs.declared.LockState.{LockState}
 use Rattle.books.specs.declared.Request.{Request}
 use Rattle.law.specs.Documents.{Text, Command, Resume, Resubmit, Document}
-use Rattle.law.specs.Contents.{Flow, PodObject}
+use Rattle.law.specs.Contents.{Flow, PodObject, Book}
 use Rattle.law.specs.Due.{Matter, release, node_name, name_at}
 use Rattle.wf_object.specs.Documents.{law_of}
 use Rattle.law.specs.Justified.{tree_of, wants_of, key}
@@ -26,6 +27,11 @@ use Rattle.worker_job.specs.Told.{next_told}
 abbrev pub is_resumption : Text → Command → Bool
 is_resumption w (Resume c) = bytes_eq c.workflow w
 is_resumption w (Resubmit c) = false
+
+-- a book was read, and its requests pass
+abbrev pub passes : (List Request → Bool) → Option (Seen Book) → Bool
+passes test None = false
+passes test (Some b) = test b.content.requests
 
 abbrev pub step_told : Option Act → Step
 step_told o = option_map next_told o
@@ -56,6 +62,12 @@ module _ (r : Reading) where
 
   abbrev pub stands : Path → Option (LockId × LockState)
   stands p = option_map standing (request p)
+
+  abbrev pub is_held : Path → Bool
+  is_held p = locks.holds (request p)
+
+  abbrev pub may_hold : Bool
+  may_hold = passes (locks.may_hold workflow) views.book
 
   abbrev pub pod_of : Path → Option PodObject
   pod_of p = next.pod_at law workflow views flow p.sels

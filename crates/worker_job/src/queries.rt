@@ -134,6 +134,9 @@ impl<'a> Reading<'a> {
         ensures { option_map (λ p. record_fact (fact.Granted p.now)) result
             ≡ reads.asked self.now (reads.granting self.now) }
     {
+        if !self.may_hold() {
+            return None;
+        }
         let test = Holding { reading: *self };
         match self.object.state().find_want(WantKind::Lock, &test) {
             None => None,
@@ -215,7 +218,7 @@ impl<'a> Reading<'a> {
         ensures { option_map (λ k. release k.0.now (justified.key (reads.workflow self.now) k.1.now)) result
             ≡ reads.first_node self.now (reads.releasing self.now) }
     {
-        if self.job.book().is_none() {
+        if !self.may_hold() {
             return None;
         }
         let test = Kept { reading: *self };

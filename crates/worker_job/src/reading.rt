@@ -125,6 +125,26 @@ impl<'a> Reading<'a> {
         }
     }
 
+    // Whether a path holds its lock, by the view of the book.
+    fn holds(&self, path: &Path) -> bool
+        ensures { result ≡ reads.is_held self.now path.now }
+    {
+        match self.job.locks() {
+            None => false,
+            Some(book) => book.holds(self.job.workflow(), path),
+        }
+    }
+
+    // Whether some path of this workflow may hold its lock, by the view of the book. Where none may, none does.
+    pub(crate) fn may_hold(&self) -> bool
+        ensures { result ≡ reads.may_hold self.now }
+    {
+        match self.job.locks() {
+            None => false,
+            Some(book) => book.may_hold(self.job.workflow()),
+        }
+    }
+
     // The pod of a path, as it was read.
     fn pod(&self, path: &Path) -> Option<&PodObject>
         ensures { option_copied result ≡ reads.pod_of self.now path.now }
@@ -175,10 +195,7 @@ impl<'a> Reading<'a> {
         let Want::Lock(path, _) = want else {
             return None
         };
-        match self.standing(path) {
-            Some((_, LockState::Holding)) => Some(path),
-            _ => None,
-        }
+        if self.holds(path) { Some(path) } else { None }
     }
 
     // The path of a lock that the book does not know, the lock, and the name of the path's node.
@@ -327,6 +344,9 @@ impl<'a> Reading<'a> {
         ensures { option_map (λ l. release l.now (justified.key (reads.workflow self.now) path.now)) result
             ≡ reads.release_held self.now path.now }
     {
+        if !self.holds(path) {
+            return None;
+        }
         match self.standing(path) {
             Some((lock, LockState::Holding)) => Some(lock),
             _ => None,

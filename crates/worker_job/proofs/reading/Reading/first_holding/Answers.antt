@@ -1,8 +1,9 @@
-use Rattle.std.proofs.Common.{◌∙◌}
+use Rattle.std.proofs.Common.{sym, ◌∙◌}
 use Rattle.std.specs.Prelude.{Some, None}
 use Rattle.tree_state.specs.declared.kinds.WantKind.TheVariants as kind
 use Rattle.worker_job.specs.Readings as reads
 use Rattle.worker_job.proofs.Wanted.{wanted, granting_only}
+use Rattle.worker_job.proofs.Chains.{none_granted}
 use Rattle.worker_job.proofs.reading.Reading.first_holding.Goals as goal
 
 pub returns-in-None : goal.returns-in-None
@@ -15,3 +16,6 @@ returns-in-Some c =
     let r = c.args.self.now in
     c.holding.ensures
     ∙ wanted r.object.now.manifest r.object.now.journal c.state.result.now kind.Lock (reads.granting r) (Some c.in-Some.want.now) (granting_only r) c.state.ensures c.in-Some.ensures
+
+pub returns-then-not-may_hold : goal.returns-then-not-may_hold
+returns-then-not-may_hold c = none_granted c.args.self.now (sym c.if-not-may_hold.ensures)
