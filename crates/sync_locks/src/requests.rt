@@ -73,10 +73,10 @@ impl Requests {
     {
         Ok(Requests {
             asked: self.asked.share()?,
-            states: self.states.clone()?,
+            states: copied(&self.states)?,
             table: self.table.share()?,
-            holding: self.holding.clone()?,
-            waiting: self.waiting.clone()?,
+            holding: copied(&self.holding)?,
+            waiting: copied(&self.waiting)?,
         })
     }
 
@@ -291,6 +291,16 @@ impl Requests {
             }
         }
     }
+}
+
+// The same items. A clone of a vector takes its items one by one, which was a fifth of what a book's copy costs; this moves
+// them at once.
+fn copied<T: Copy>(items: &Vec<T>) -> Result<Vec<T>, Memory>
+    ensures { IfOk result (λ copy. copy.items ≡ items.now.items) }
+{
+    let mut copy = Vec::with_capacity(*items.allocator(), items.len())?;
+    copy.extend_from_slice(items.as_slice())?;
+    Ok(copy)
 }
 
 // The table with one place more at the end of a bucket.
