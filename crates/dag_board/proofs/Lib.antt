@@ -1,10 +1,11 @@
 pub mod Lookups
 pub mod Judging
 pub mod Values
-pub mod Befores
+pub mod Once
+pub mod Upwards
 pub mod Reaching
+pub mod Befores
 pub mod Seen
 pub mod Writing
-pub mod Existing
 pub mod Endings
 pub mod Results

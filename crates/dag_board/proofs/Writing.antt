@@ -1,27 +1,27 @@
 -- A board on which one task more is written.
-use Rattle.std.proofs.Common.{◌≡◌, ◌≢◌, ◌⊎◌, ℕ, zero, suc, ◌<◌, List, [], ◌∷◌, ◌++◌, length, get_or, take, Option, None, refl, sym, ap, ◌∙◌, subst, inl, inr, arith}
+use Rattle.std.proofs.Common.{◌≡◌, ◌≢◌, ◌⊎◌, ℕ, zero, suc, ◌<◌, List, [], ◌∷◌, ◌++◌, length, get_or, take, Option, None, Some, refl, sym, ap, ◌∙◌, subst, inl, inr, arith}
 use Rattle.std.proofs.Math.Seq.{take-suc}
-use Rattle.std.specs.List.{All, Contains}
+use Rattle.std.specs.List.{Contains}
 use Rattle.std.proofs.lemmas.List.{length-set, length-take, get_or-take, get_or-set_same, get_or-set_other}
-use Rattle.std.proofs.lemmas.List.Elements.{All-set, Contains-push, Contains-push_cases, Contains-append_left}
+use Rattle.std.proofs.lemmas.List.Elements.{Contains-push, Contains-push_cases, Contains-append_left}
 use Rattle.std.proofs.lemmas.Option.{slice_get_within}
+use Rattle.tree_types.specs.declared.phase.Phase.{Phase}
 use Rattle.wf_manifest.specs.declared.calls.Task.{Task}
 use Rattle.wf_manifest.specs.declared.calls.Dag.{Dag}
 use Rattle.scopes.specs.Substitution.{Scope}
-use Rattle.scopes.specs.Values.{HasValuesOf}
-use Rattle.task_order.proofs.Among.{among_from, same_or}
+use Rattle.task_order.proofs.Among.{same_or}
 use Rattle.meaning.specs.declared.lines.Place.{Place}
 use Rattle.meaning.specs.Answers.{Answers}
 use Rattle.meaning.specs.Lines.{Made}
 use Rattle.meaning.specs.Steps.{Caller}
-use Rattle.meaning.specs.Dags.{Standing, waiting, ready, Standings, standings}
+use Rattle.meaning.specs.Dags.{waiting, ready, exists, Standings, standings}
 use Rattle.dag_plan.specs.declared.plan.DagPlan.{DagPlan}
 use Rattle.dag_plan.specs.Plans.{IsPlan}
 use Rattle.dag_template.specs.declared.stands.Stand.{Stand}
 use Rattle.dag_template.specs.Stands.{sight, waits}
 use Rattle.dag_board.specs.declared.board.Board.{Board}
-use Rattle.dag_board.specs.Boards.{stood, tags_at, made_of, seen_of, stand_at, state_at, before_at, Shows, IsBlank, IsBoard, stands_at, IsTurn}
-use Rattle.dag_board.specs.Turns.{WaitingIsShown, IsReady}
+use Rattle.dag_board.specs.Boards.{stood, made_of, stand_at, state_at, Shows, IsBlank, IsBoard, stands_at, IsTurn}
+use Rattle.dag_board.specs.Turns.{WaitingIsShown, Exists, IsReady}
 use Rattle.dag_board.specs.Inside.Puts.{IsPut}
 
 -- the next task of the order is not done
@@ -58,7 +58,7 @@ module _ (d : Dag) (plan : DagPlan) (A : Answers) (called : Caller) (place : Pla
   abbrev order : List ℕ
   order = plan.order
 
-  module _ (new : Board) (s : Stand) (m : Option Made) (before : List ℕ) (put : IsPut old new i s m before) where
+  module _ (new : Board) (s : Stand) (m : Option Made) (put : IsPut old new i s m) where
     low : i < length d.tasks
     low = slice_get_within d.tasks i t turn.task
 
@@ -68,52 +68,37 @@ module _ (d : Dag) (plan : DagPlan) (A : Answers) (called : Caller) (place : Pla
     put_same_state : state_at new i ≡ m
     put_same_state = ap (λ (xs : List (Option Made)). get_or xs i None) put.states ∙ get_or-set_same old.states.items i m None (omega (arith, low, shown.fits.states))
 
-    put_same_before : before_at new i ≡ before
-    put_same_before = ap (λ (xs : List (List ℕ)). get_or xs i []) put.places ∙ get_or-set_same old.before.items i before [] (omega (arith, low, shown.fits.before))
-
     put_other_stand : (p : ℕ) → p ≢ i → stand_at new p ≡ stand_at old p
     put_other_stand p other = ap (λ (xs : List Stand). get_or xs p waits) put.stands ∙ get_or-set_other old.stands.items i p s waits other
 
     put_other_state : (p : ℕ) → p ≢ i → state_at new p ≡ state_at old p
     put_other_state p other = ap (λ (xs : List (Option Made)). get_or xs p None) put.states ∙ get_or-set_other old.states.items i p m None other
 
-    put_other_before : (p : ℕ) → p ≢ i → before_at new p ≡ before_at old p
-    put_other_before p other = ap (λ (xs : List (List ℕ)). get_or xs p []) put.places ∙ get_or-set_other old.before.items i p before [] other
-
     pub written :
-        s ≡ sight (stood ss i) → m ≡ made_of (stood ss i) → HasValuesOf (tags_at d.tasks ss before) (seen_of (stood ss i)) →
-        ((q : ℕ) → Contains before q → Contains (take k order) q) → All (λ p. p < length d.tasks) before →
-        IsBoard A called place scope d (take (suc k) order) new
-    written s_is m_is tags done few = record {
+        s ≡ sight (stood ss i) → m ≡ made_of (stood ss i) → IsBoard A called place scope d (take (suc k) order) new
+    written s_is m_is = record {
       fits = record {
         stands = ap (λ (xs : List Stand). length xs) put.stands ∙ length-set old.stands.items i s ∙ shown.fits.stands;
         states = ap (λ (xs : List (Option Made)). length xs) put.states ∙ length-set old.states.items i m ∙ shown.fits.states;
-        before = ap (λ (xs : List (List ℕ)). length xs) put.places ∙ length-set old.before.items i before ∙ shown.fits.before;
-        within =
-            subst (All (All (λ p. p < length d.tasks))) (sym put.places)
-            (All-set (All (λ p. p < length d.tasks)) old.before.items i before few shown.fits.within);
       };
       shown = λ p c. shows p (same_or p i) (done_cases order k i p turn.low turn.here c);
       blank = λ p n. blanks p n (same_or p i);
-      within = λ p q c b. inside p q b (same_or p i) (done_cases order k i p turn.low turn.here c);
     }
       where
-        own : Shows d.tasks ss new i
+        own : Shows ss new i
         own = record {
           stand = put_same_stand ∙ s_is;
           state = put_same_state ∙ m_is;
-          before = subst (λ (ps : List ℕ). HasValuesOf (tags_at d.tasks ss ps) (seen_of (stood ss i))) (sym put_same_before) tags;
         }
 
-        other_shown : (p : ℕ) → p ≢ i → Shows d.tasks ss old p → Shows d.tasks ss new p
+        other_shown : (p : ℕ) → p ≢ i → Shows ss old p → Shows ss new p
         other_shown p other sh = record {
           stand = put_other_stand p other ∙ sh.stand;
           state = put_other_state p other ∙ sh.state;
-          before = subst (λ (ps : List ℕ). HasValuesOf (tags_at d.tasks ss ps) (seen_of (stood ss p))) (sym (put_other_before p other)) sh.before;
         }
 
-        shows : (p : ℕ) → (p ≡ i) ⊎ (p ≢ i) → Contains (take k order) p ⊎ (i ≡ p) → Shows d.tasks ss new p
-        shows p (inl same) c = subst (Shows d.tasks ss new) (sym same) own
+        shows : (p : ℕ) → (p ≡ i) ⊎ (p ≢ i) → Contains (take k order) p ⊎ (i ≡ p) → Shows ss new p
+        shows p (inl same) c = subst (Shows ss new) (sym same) own
         shows p (inr other) (inl c) = other_shown p other (shown.shown p c)
         shows p (inr other) (inr same) = absurd (other (sym same))
 
@@ -124,17 +109,7 @@ module _ (d : Dag) (plan : DagPlan) (A : Answers) (called : Caller) (place : Pla
             record {
               stand = put_other_stand p other ∙ blank.stand;
               state = put_other_state p other ∙ blank.state;
-              before = put_other_before p other ∙ blank.before;
             }
-
-        inside : (p q : ℕ) → Contains (before_at new p) q → (p ≡ i) ⊎ (p ≢ i) → Contains (take k order) p ⊎ (i ≡ p) → Contains (take (suc k) order) q
-        inside p q b (inl same) c =
-            still_done order k q turn.low
-            (done q (subst (λ (ps : List ℕ). Contains ps q) (ap (before_at new) same ∙ put_same_before) b))
-        inside p q b (inr other) (inl c) =
-            still_done order k q turn.low
-            (shown.within p q c (subst (λ (ps : List ℕ). Contains ps q) (put_other_before p other) b))
-        inside p q b (inr other) (inr same) = absurd (other (sym same))
 
   -- a task that waits
   pub passed : IsPlan d plan → stands_at A called place scope d i ≡ waiting → IsBoard A called place scope d (take (suc k) order) old
@@ -142,34 +117,30 @@ module _ (d : Dag) (plan : DagPlan) (A : Answers) (called : Caller) (place : Pla
     fits = shown.fits;
     shown = λ q c. shows q (done_cases order k i q turn.low turn.here c);
     blank = λ q n. shown.blank q (λ c. n (still_done order k q turn.low c));
-    within = λ q r c b. inside q r b (done_cases order k i q turn.low turn.here c);
   }
     where
       own : IsBlank old i
       own = shown.blank i (not_done d plan p k i t turn)
 
-      own_shown : Shows d.tasks ss old i
+      own_shown : Shows ss old i
       own_shown = record {
         stand = own.stand ∙ sym (ap sight waits_is);
         state = own.state ∙ sym (ap made_of waits_is);
-        before =
-            subst (λ (ps : List ℕ). HasValuesOf (tags_at d.tasks ss ps) (seen_of (stood ss i))) (sym own.before)
-            (subst (λ (x : Standing). HasValuesOf [] (seen_of x)) (sym waits_is) (λ tag. refl));
       }
 
-      shows : (q : ℕ) → Contains (take k order) q ⊎ (i ≡ q) → Shows d.tasks ss old q
+      shows : (q : ℕ) → Contains (take k order) q ⊎ (i ≡ q) → Shows ss old q
       shows q (inl c) = shown.shown q c
-      shows q (inr same) = subst (Shows d.tasks ss old) same own_shown
-
-      inside : (q r : ℕ) → Contains (before_at old q) r → Contains (take k order) q ⊎ (i ≡ q) → Contains (take (suc k) order) r
-      inside q r b (inl c) = still_done order k r turn.low (shown.within q r c b)
-      inside q r b (inr same) =
-          absurd (among_from [] r (subst (λ (ps : List ℕ). Contains ps r) (ap (before_at old) (sym same) ∙ own.before) b))
+      shows q (inr same) = subst (Shows ss old) same own_shown
 
 pub waiting_is_shown : WaitingIsShown
 waiting_is_shown d plan b i p A called place scope k t shown turn waits_is = passed d plan A called place scope k i t turn b shown p waits_is
 
-pub ready_is_shown : (d : Dag) (plan : DagPlan) (old new : Board) (i : ℕ) → IsPut old new i (sight ready) None [] → IsReady d plan old new i
+pub ready_is_shown : (d : Dag) (plan : DagPlan) (old new : Board) (i : ℕ) → IsPut old new i (sight ready) None → IsReady d plan old new i
 ready_is_shown d plan old new i put A called place scope k t shown turn is =
-    written d plan A called place scope k i t turn old shown new (sight ready) None [] put (sym (ap sight is)) (sym (ap made_of is))
-    (subst (λ (x : Standing). HasValuesOf [] (seen_of x)) (sym is) (λ tag. refl)) (λ q c. absurd (among_from [] q c)) (λ j e low. absurd (omega (arith, low)))
+    written d plan A called place scope k i t turn old shown new (sight ready) None put (sym (ap sight is)) (sym (ap made_of is))
+
+pub existing_is_shown :
+    (d : Dag) (plan : DagPlan) (old new : Board) (i : ℕ) (branch : Phase) (m : Made) (s : Stand) → s ≡ sight (exists m branch []) →
+    IsPut old new i s (Some m) → Exists d plan old new i branch m
+existing_is_shown d plan old new i branch m s s_is put A called place scope k t shown turn is =
+    written d plan A called place scope k i t turn old shown new s (Some m) put (s_is ∙ sym (ap sight is)) (sym (ap made_of is))

@@ -1,15 +1,14 @@
 -- What a board shows of the tasks of a DAG.
-use Rattle.std.specs.Prelude.{◌≡◌, ℕ, zero, suc, ◌<◌, List, [], ◌∷◌, length, get_or, slice_get, flat_map, Option, Some, None}
-use Rattle.std.specs.List.{All, Contains}
+use Rattle.std.specs.Prelude.{◌≡◌, ℕ, zero, suc, ◌<◌, List, [], ◌∷◌, length, get_or, slice_get, Option, Some, None}
+use Rattle.std.specs.List.{Contains}
 use Rattle.wf_manifest.specs.declared.calls.Task.{Task}
 use Rattle.wf_manifest.specs.declared.calls.Dag.{Dag}
 use Rattle.scopes.specs.Substitution.{Scope}
-use Rattle.scopes.specs.Values.{HasValuesOf}
 use Rattle.meaning.specs.declared.lines.Place.{Place}
 use Rattle.meaning.specs.Answers.{Answers}
 use Rattle.meaning.specs.Lines.{Made}
 use Rattle.meaning.specs.Steps.{Caller}
-use Rattle.meaning.specs.Dags.{parents, Standing, waiting, exists, own_tags, tags_before, look, Standings, standings}
+use Rattle.meaning.specs.Dags.{parents, Standing, waiting, exists, tags_before, look, Standings, standings}
 use Rattle.dag_plan.specs.declared.plan.DagPlan.{DagPlan}
 use Rattle.dag_template.specs.declared.stands.Stand.{Stand}
 use Rattle.dag_template.specs.Stands.{sight, waits}
@@ -28,19 +27,10 @@ name_at [] p = []
 name_at (t ∷ ts) zero = t.call.name
 name_at (t ∷ ts) (suc p) = name_at ts p
 
--- the tags of the tasks at these positions
-abbrev pub tags_at : List Task → Standings → List ℕ → Scope
-tags_at ts ss ps = flat_map (λ p. own_tags (name_at ts p) (stood ss p)) ps
-
 -- what a task made that exists
 abbrev pub made_of : Standing → Option Made
 made_of (exists m branch seen) = Some m
 made_of _ = None
-
--- the tags of the tasks before a task that exists
-abbrev pub seen_of : Standing → Scope
-seen_of (exists m branch seen) = seen
-seen_of _ = []
 
 -- ---- a board
 
@@ -50,36 +40,27 @@ stand_at b p = get_or b.stands.items p waits
 abbrev pub state_at : Board → ℕ → Option Made
 state_at b p = get_or b.states.items p None
 
--- the ancestors of the task at a position
-abbrev pub before_at : Board → ℕ → List ℕ
-before_at b p = get_or b.before.items p []
-
 -- it has a place for each task
 pub record Fits (d : Dag) (b : Board) : Type 0 where
   pub stands : length b.stands.items ≡ length d.tasks
   pub states : length b.states.items ≡ length d.tasks
-  pub before : length b.before.items ≡ length d.tasks
-  pub within : All (All (λ p. p < length d.tasks)) b.before.items
 
--- how the task at a position stands: as others see it, what it made, and the tags of the tasks before it
-pub record Shows (ts : List Task) (ss : Standings) (b : Board) (p : ℕ) : Type 0 where
+-- how the task at a position stands: as others see it, and what it made
+pub record Shows (ss : Standings) (b : Board) (p : ℕ) : Type 0 where
   pub stand : stand_at b p ≡ sight (stood ss p)
   pub state : state_at b p ≡ made_of (stood ss p)
-  pub before : HasValuesOf (tags_at ts ss (before_at b p)) (seen_of (stood ss p))
 
 -- nothing of the task at a position
 pub record IsBlank (b : Board) (p : ℕ) : Type 0 where
   pub stand : stand_at b p ≡ waits
   pub state : state_at b p ≡ None
-  pub before : before_at b p ≡ []
 
 module _ (A : Answers) (called : Caller) (place : Place) (scope : Scope) (d : Dag) where
   -- it shows how the tasks at these positions stand, and nothing of the others
   pub record IsBoard (done : List ℕ) (b : Board) : Type 0 where
     pub fits : Fits d b
-    pub shown : (p : ℕ) → Contains done p → Shows d.tasks (standings A called place scope d) b p
+    pub shown : (p : ℕ) → Contains done p → Shows (standings A called place scope d) b p
     pub blank : (p : ℕ) → ¬ (Contains done p) → IsBlank b p
-    pub within : (p q : ℕ) → Contains done p → Contains (before_at b p) q → Contains done q
 
   -- how the task at a position stands
   abbrev pub stands_at : ℕ → Standing

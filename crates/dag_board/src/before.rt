@@ -1,13 +1,14 @@
 //! The tasks before a task, and its scope.
 
-ghost use Rattle.std.specs.Prelude.{◌≡◌, ◌∷◌, ◌++◌, ◌<◌, [], length, get_or, IfOk, OnOk};
+ghost use Rattle.std.specs.Prelude.{◌≡◌, ◌∷◌, ◌++◌, ◌<◌, [], suc, length, get_or, IfOk, OnOk};
 ghost use Rattle.std.specs.List.{All};
 ghost use Rattle.scopes.specs.Values.{HasValuesOf};
+ghost use Rattle.task_order.specs.Orders.{AreWithin, IsOrder};
 ghost use Rattle.dag_plan.specs.Plans.{IsPlan};
 ghost use Rattle.dag_board.specs.Boards.{Fits, name_at, state_at};
 ghost use Rattle.dag_board.specs.Turns.{Sees};
 ghost use Rattle.dag_board.specs.Inside.Firsts.{firsts};
-ghost use Rattle.dag_board.specs.Inside.Befores.{up_to, ancestors, made_tags, board_tags};
+ghost use Rattle.dag_board.specs.Inside.Befores.{place_in, up_to, ancestors, IsClosed, made_tags, board_tags};
 
 use crate::Board;
 use crate::firsts::Firsts;
@@ -20,34 +21,46 @@ use std::alloc::Global;
 use wf_manifest::Dag;
 
 impl Board {
-    fn add_up_to(&self, place: usize, found: &mut Firsts) -> Result<(), Memory>
-        requires place { place < length self.now.before.items }
-        requires within { All (All (λ p. p < found.old.room)) self.now.before.items }
-        requires room { place < found.old.room }
+    // Adds this position, and those of the ancestors of its task. What is there already is there with its ancestors.
+    fn add_up_to(&self, plan: &DagPlan, place: usize, found: &mut Firsts) -> Result<(), Memory>
+        requires within { AreWithin plan.now.rows }
+        requires order { IsOrder plan.now.rows plan.now.order }
+        requires stands { length self.now.stands.items ≡ length plan.now.rows }
+        requires room { found.old.room ≡ length plan.now.rows }
+        requires place { place < length plan.now.rows }
+        requires closed { IsClosed plan.now self.now (suc (place_in plan.now.order place)) found.old.list }
         ensures room { OnOk result (found.new.room ≡ found.old.room) }
-        ensures list { OnOk result (found.new.list ≡ firsts found.old.list (up_to self.now place)) }
+        ensures list { OnOk result (found.new.list ≡ firsts found.old.list (up_to plan.now self.now place)) }
     {
+        if found.has(place) {
+            return Ok(());
+        }
         found.add(place)?;
-        let before = self.before[place].as_slice();
-        for k in 0..before.len() {
-            found.add(before[k])?;
+        if !self.stands[place].existing {
+            return Ok(());
+        }
+        let row = plan.rows.get(place).as_slice();
+        for j in 0..row.len() {
+            self.add_up_to(plan, row[j], found)?;
         }
         Ok(())
     }
 
     // The positions of these tasks and of their ancestors, in the order in which their tags count.
-    pub(crate) fn ancestors(&self, alloc: Global, row: &[usize]) -> Result<List<usize>, Memory>
-        requires row { All (λ p. p < length self.now.before.items) row.now }
-        requires within { All (All (λ p. p < length self.now.before.items)) self.now.before.items }
-        ensures { IfOk result (λ found. found ≡ ancestors self.now row.now) }
+    fn ancestors(&self, alloc: Global, plan: &DagPlan, row: &[usize]) -> Result<List<usize>, Memory>
+        requires within { AreWithin plan.now.rows }
+        requires order { IsOrder plan.now.rows plan.now.order }
+        requires stands { length self.now.stands.items ≡ length plan.now.rows }
+        requires row { All (λ p. p < length plan.now.rows) row.now }
+        ensures { IfOk result (λ found. found ≡ ancestors plan.now self.now row.now) }
     {
         if row.is_empty() {
             // most tasks of a wide DAG: no mark for each of its tasks
             return Ok(List::new(alloc));
         }
-        let mut found = Firsts::new(alloc, self.before.len())?;
+        let mut found = Firsts::new(alloc, self.stands.len())?;
         for j in 0..row.len() {
-            self.add_up_to(row[j], &mut found)?;
+            self.add_up_to(plan, row[j], &mut found)?;
         }
         Ok(found.into_list())
     }
@@ -98,7 +111,7 @@ impl Board {
         ensures { IfOk result (λ inner. Sees dag.now plan.now self.now i scope.now inner) }
     {
         rounds_settle();
-        let found = self.ancestors(alloc, plan.rows.get(i).as_slice())?;
+        let found = self.ancestors(alloc, plan, plan.rows.get(i).as_slice())?;
         let tags = self.tags_of(alloc, dag, found.as_slice())?;
         scope.with(tags)
     }

@@ -1,22 +1,20 @@
 //! How the tasks of a DAG stand.
 
-ghost use Rattle.std.specs.Prelude.{◌≡◌, length, replicate, None, [], IfOk};
+ghost use Rattle.std.specs.Prelude.{◌≡◌, replicate, None, IfOk};
 ghost use Rattle.dag_template.specs.Stands.{waits};
 ghost use Rattle.dag_board.specs.Turns.{IsNew};
 
-use base_types::{List, Memory};
+use base_types::Memory;
 use dag_template::{Stand, waiting};
 use std::alloc::Global;
 use tree_state::Shared;
 use wf_manifest::Dag;
 
-/// How the tasks of a DAG stand so far: what others see of each, what it made, and the positions of its ancestors in the order
-/// in which their tags count.
+/// How the tasks of a DAG stand so far: what others see of each, and what it made.
 #[derive(Debug, Drop)]
 pub struct Board {
     pub(crate) stands: Vec<Stand>,
     pub(crate) states: Vec<Option<Shared>>,
-    pub(crate) before: Vec<List<usize>>,
 }
 
 impl Board {
@@ -28,7 +26,6 @@ impl Board {
         Ok(Board {
             stands: no_stands(alloc, count)?,
             states: no_states(alloc, count)?,
-            before: no_places(alloc, count)?,
         })
     }
 }
@@ -51,14 +48,4 @@ fn no_states(alloc: Global, count: usize) -> Result<Vec<Option<Shared>>, Memory>
         states.push(None)?;
     }
     Ok(states)
-}
-
-fn no_places(alloc: Global, count: usize) -> Result<Vec<List<usize>>, Memory>
-    ensures { IfOk result (λ places. places.items ≡ replicate count []) }
-{
-    let mut places = Vec::with_capacity(alloc, count)?;
-    for _ in 0..count {
-        places.push(List::new(alloc))?;
-    }
-    Ok(places)
 }

@@ -1,6 +1,7 @@
 //! Positions, each once.
 
-ghost use Rattle.std.specs.Prelude.{◌≡◌, ◌<◌, [], false, replicate, vec_len, IfOk, OnOk};
+ghost use Rattle.std.specs.Prelude.{◌≡◌, ◌<◌, ◌==◌, [], false, replicate, vec_len, IfOk, OnOk};
+ghost use Rattle.std.specs.List.{list_any};
 ghost use Rattle.dag_board.specs.Inside.Firsts.{add_first};
 
 use base_types::{List, Memory};
@@ -33,6 +34,13 @@ impl Firsts {
             marks: no_marks(alloc, room)?,
             list: List::new(alloc),
         })
+    }
+
+    pub(crate) fn has(&self, place: usize) -> bool
+        requires { place < self.now.room }
+        ensures { result ≡ list_any (λ p. place == p) self.now.list }
+    {
+        self.marks[place]
     }
 
     pub(crate) fn add(&mut self, place: usize) -> Result<(), Memory>

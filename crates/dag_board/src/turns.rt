@@ -12,12 +12,11 @@ ghost use Rattle.dag_board.specs.Turns.{Exists, Begins, Omits, IsReady};
 ghost use Rattle.dag_board.specs.Inside.Puts.{IsPut};
 
 use crate::Board;
-use base_types::{List, Memory};
+use base_types::Memory;
 use call_nodes::{bare, covered, task_place};
 use dag_plan::DagPlan;
 use dag_template::{Stand, waiting};
 use depends_expr::TaskResult;
-use growth::laws::rounds_settle;
 use meaning::Place;
 use std::alloc::Global;
 use tree_state::{Below, Shared, State};
@@ -65,36 +64,22 @@ fn omitted_state(alloc: Global, place: Place) -> State
 }
 
 impl Board {
-    fn put(&mut self, i: usize, stand: Stand, state: Option<Shared>, before: List<usize>)
+    fn put(&mut self, i: usize, stand: Stand, state: Option<Shared>)
         requires stands { i < length self.old.stands.items }
         requires states { i < length self.old.states.items }
-        requires before { i < length self.old.before.items }
-        ensures { IsPut self.old self.new i stand state before }
+        ensures { IsPut self.old self.new i stand state }
     {
         self.stands[i] = stand;
         self.states[i] = state;
-        self.before[i] = before;
     }
 
-    fn exist(
-        &mut self,
-        alloc: Global,
-        dag: &Dag,
-        plan: &DagPlan,
-        i: usize,
-        branch: Phase,
-        state: Shared,
-    ) -> Result<(), Memory>
-        requires plan { IsPlan dag.now plan.now }
+    fn exist(&mut self, dag: &Dag, plan: &DagPlan, i: usize, branch: Phase, state: Shared)
         requires fits { Fits dag.now self.old }
         requires place { i < length dag.now.tasks }
-        ensures { OnOk result (Exists dag.now plan.now self.old self.new i branch state) }
+        ensures { Exists dag.now plan.now self.old self.new i branch state }
     {
-        rounds_settle();
-        let before = self.ancestors(alloc, plan.rows.get(i).as_slice())?;
         let stand = stand_existing(branch, state.state());
-        self.put(i, stand, Some(state), before);
-        Ok(())
+        self.put(i, stand, Some(state));
     }
 
     /// The task at position `i`, whose turn is next, begins, and its call made this.
@@ -112,7 +97,8 @@ impl Board {
         ensures { OnOk result (Begins dag.now plan.now self.old self.new i state) }
     {
         let branch = covered(&dag.tasks.get(i).call.continue_on, state.state().phase());
-        self.exist(alloc, dag, plan, i, branch, state)
+        self.exist(dag, plan, i, branch, state);
+        Ok(())
     }
 
     /// The task at position `i`, whose turn is next, is Omitted below this place, with this branch phase.
@@ -136,7 +122,8 @@ impl Board {
         let task = dag.tasks.get(i);
         let at = task_place(place, i as u32, task)?;
         let state = Shared::new(omitted_state(alloc, at))?;
-        self.exist(alloc, dag, plan, i, branch, state)
+        self.exist(dag, plan, i, branch, state);
+        Ok(())
     }
 
     /// The task at position `i`, whose turn is next, is ready: it may begin, and its beginning is not recorded.
@@ -146,7 +133,6 @@ impl Board {
         requires place { i < length dag.now.tasks }
         ensures { IsReady dag.now plan.now self.old self.new i }
     {
-        rounds_settle();
-        self.put(i, stand_ready(), None, List::new(alloc));
+        self.put(i, stand_ready(), None);
     }
 }

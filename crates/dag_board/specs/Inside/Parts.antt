@@ -1,5 +1,5 @@
 -- What stands below a DAG, by what a board has.
-use Rattle.std.specs.Prelude.{ℕ, suc, List, [], ◌∷◌, ◌++◌, Bool, true, false, not, ◌&&◌, Option, Some, None, if◌then◌else◌}
+use Rattle.std.specs.Prelude.{ℕ, suc, List, [], ◌∷◌, ◌++◌, Bool, not, ◌&&◌, Option, Some, None, if◌then◌else◌}
 use Rattle.tree_types.specs.declared.phase.Phase.{Phase}
 use Rattle.tree_types.specs.declared.phase.Phase.TheVariants.{Running}
 use Rattle.wf_manifest.specs.declared.calls.Task.{Task}

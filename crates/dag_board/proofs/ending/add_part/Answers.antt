@@ -1,5 +1,5 @@
 -- Nothing stands for a task that neither exists nor may begin.
-use Rattle.std.proofs.Common.{◌≡◌, Option, Bool, false, sym, ap, ◌∙◌}
+use Rattle.std.proofs.Common.{Option, Bool, false, sym, ap, ◌∙◌}
 use Rattle.meaning.specs.Lines.{nothing, then_parts, Made}
 use Rattle.meaning.specs.Dags.{task_place}
 use Rattle.dag_board.specs.Inside.Parts.{part_then}

@@ -1,6 +1,5 @@
 -- The tags of one task more, in front of those behind it.
-use Rattle.std.proofs.Common.{◌≡◌, ◌<◌, ◌≤◌, ◌-◌, ◌++◌, ◌∷◌, [], ◌+◌, ℕ, List, length, drop, suc, Some, sym, ap, ◌∙◌, subst, arith}
-use Rattle.std.specs.Prelude.{slice_get}
+use Rattle.std.proofs.Common.{◌≡◌, ◌<◌, ◌-◌, ◌++◌, ◌∷◌, ◌+◌, ℕ, List, length, drop, suc, sym, ap, ◌∙◌, subst, arith}
 use Rattle.wf_manifest.specs.declared.calls.Task.{Task}
 use Rattle.scopes.specs.Values.{HasValuesOf}
 use Rattle.scopes.proofs.ValueIn.{append_alike, alike_trans, drop_place}

@@ -5,6 +5,6 @@ use Rattle.dag_board.proofs.board.Board.ancestors.Given as goal
 
 abbrev pub invariant-loop-j : goal.invariant-loop-j
 invariant-loop-j l = record {
-  room : l.found.room ≡ length l.self.before.items;
-  list : l.found.list ≡ ancestors l.self (take l.j l.row);
+  room : l.found.room ≡ length l.plan.rows;
+  list : l.found.list ≡ ancestors l.plan l.self (take l.j l.row);
 }

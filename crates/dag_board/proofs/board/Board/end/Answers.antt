@@ -4,9 +4,8 @@ use Rattle.std.specs.List.{All}
 use Rattle.meaning.specs.Dags.{target_names}
 use Rattle.dag_template.specs.declared.stands.Stand.{Stand}
 use Rattle.dag_template.specs.Stands.{waits}
-use Rattle.dag_template.specs.Following.{is_doomed, phase_seen}
+use Rattle.dag_template.specs.Following.{phase_seen}
 use Rattle.dag_template.proofs.Places.{places_low}
-use Rattle.dag_board.specs.declared.ending.DagEnd.{DagEnd}
 use Rattle.dag_board.specs.Inside.Parts.{or_running}
 use Rattle.dag_board.proofs.Endings.{end_told}
 use Rattle.dag_board.proofs.board.Board.end.Goals as goal

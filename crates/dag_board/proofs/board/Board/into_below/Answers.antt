@@ -1,10 +1,9 @@
 -- One part more stands below.
-use Rattle.std.proofs.Common.{◌≡◌, ◌≢◌, ◌<◌, ◌≤◌, ◌+◌, ◌∷◌, ℕ, suc, List, Bool, not, ◌&&◌, Option, Some, None, length, get_or, drop, set, sym, ap, ◌∙◌, subst, arith}
-use Rattle.std.specs.Prelude.{slice_get}
+use Rattle.std.proofs.Common.{◌≡◌, ◌≢◌, ◌<◌, ◌≤◌, ◌+◌, ◌∷◌, ℕ, suc, List, not, ◌&&◌, None, length, get_or, drop, sym, ap, ◌∙◌, subst, arith}
 use Rattle.std.proofs.lemmas.List.{length-set, get_or-set_other, get_or_default, drop_all}
 use Rattle.wf_manifest.specs.declared.calls.Task.{Task}
 use Rattle.scopes.proofs.ValueIn.{drop_place}
-use Rattle.meaning.specs.Lines.{Parts, then_parts, nothing, Made}
+use Rattle.meaning.specs.Lines.{Parts, then_parts}
 use Rattle.meaning.specs.Dags.{task_place}
 use Rattle.dag_template.specs.declared.stands.Stand.{Stand}
 use Rattle.dag_template.specs.Stands.{waits}

@@ -1,7 +1,7 @@
 -- What is made so far, and what stands for the tasks that are left.
-use Rattle.std.proofs.Common.{◌≡◌, ◌≤◌, ℕ, None, length, get_or, drop}
+use Rattle.std.proofs.Common.{◌≡◌, ◌≤◌, ℕ, length, drop}
 use Rattle.meaning.specs.Lines.{then_parts}
-use Rattle.dag_board.specs.Boards.{stand_at, state_at}
+use Rattle.dag_board.specs.Boards.{state_at}
 use Rattle.dag_board.specs.Inside.Parts.{parts_from}
 use Rattle.dag_board.proofs.board.Board.into_below.Given as goal
 

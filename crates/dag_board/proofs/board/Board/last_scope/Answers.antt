@@ -1,11 +1,9 @@
 -- The scope has the values of the tags of all tasks.
-use Rattle.std.proofs.Common.{◌≡◌, ◌++◌, List, ap, sym, ◌∙◌, subst}
-use Rattle.scopes.specs.Substitution.{Scope}
+use Rattle.std.proofs.Common.{◌≡◌, ◌++◌, subst}
 use Rattle.scopes.specs.Values.{HasValuesOf}
 use Rattle.scopes.proofs.ValueIn.{alike_trans, over_alike}
 use Rattle.meaning.specs.Dags.{standings, dag_tags}
 use Rattle.dag_board.specs.Ends.{SeesAll}
-use Rattle.dag_board.specs.Inside.Parts.{tags_from}
 use Rattle.dag_board.proofs.Values.{alike_refl, alike_is}
 use Rattle.dag_board.proofs.Endings.{tags_are}
 use Rattle.dag_board.proofs.Results.{ok_more}

@@ -1,6 +1,0 @@
--- So many of them.
-use Rattle.std.proofs.Common.{◌≡◌, replicate, []}
-use Rattle.dag_board.proofs.board.no_places.Given as goal
-
-abbrev pub invariant-loop : goal.invariant-loop
-invariant-loop l = l.places.items ≡ replicate l.counter []
