@@ -1,0 +1,5 @@
+pub mod Looked
+pub mod Neither
+pub mod Said
+pub mod Calls
+pub mod GroupTags

@@ -1,0 +1,16 @@
+pub mod Mentions
+pub mod Unasked
+pub use Rattle.meaning.specs.Answers
+pub use Rattle.meaning.specs.Calls
+pub use Rattle.meaning.specs.Outputs
+pub use Rattle.meaning.specs.Steps
+pub use Rattle.meaning.specs.declared.lines.Place
+pub use Rattle.scopes.specs.Substitution
+pub use Rattle.tag_text.specs.Parts
+pub use Rattle.tag_text.specs.declared.part.Part
+pub use Rattle.wf_manifest.specs.declared.calls.Argument
+pub use Rattle.wf_manifest.specs.declared.calls.Call
+pub use Rattle.wf_manifest.specs.declared.calls.Hook
+pub use Rattle.wf_manifest.specs.declared.calls.Loop
+pub use Rattle.wf_manifest.specs.declared.manifest.Manifest
+pub use Rattle.wf_manifest.specs.declared.templates.OutputDecl

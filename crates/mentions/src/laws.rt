@@ -1,0 +1,24 @@
+//! The laws, each the contract of a function that does nothing.
+
+ghost use Rattle.mentions.specs.Unasked.{UnaskedInCalls, UnaskedInGroups, UnaskedInOutputs};
+ghost use Rattle.mentions.specs.Unasked.{GroupTagsBeginSo};
+
+/// A call makes the same in scopes that agree on all other tags than those that it does not ask for.
+pub fn unasked_in_calls()
+    ensures { UnaskedInCalls }
+{}
+
+/// So do all calls of a group.
+pub fn unasked_in_groups()
+    ensures { UnaskedInGroups }
+{}
+
+/// Declared outputs are computed as the same.
+pub fn unasked_in_outputs()
+    ensures { UnaskedInOutputs }
+{}
+
+/// The tags of a group begin with `steps.`: each other tag keeps its value behind them.
+pub fn group_tags_begin_so()
+    ensures { GroupTagsBeginSo }
+{}
