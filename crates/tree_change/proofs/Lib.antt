@@ -1,11 +1,14 @@
-pub mod Asking
 mod Beside
 mod Calling
 mod Changing
 mod Entering
+mod Fronts
 mod Given
 mod Keeping
 mod Opening
+mod Passing
 mod Placing
 mod Rows
+mod Sharing
+mod Tagging
 mod Tasks

@@ -1,7 +1,7 @@
 //! The walk that is made again once one fact more is recorded: it goes down the path of the fact alone. What stands beside the
 //! path is shared with what was made before, and what begins anew is made by the walk over all.
 
-ghost use Rattle.std.specs.Prelude.{◌≡◌, ◌+◌, ◌++◌, ◌∷◌, ◌*◌, ◌<◌, ◌≤◌, All, IsTrue, Some, codes, option_copied, slice_get};
+ghost use Rattle.std.specs.Prelude.{◌≡◌, ◌+◌, ◌++◌, ◌∷◌, ◌*◌, ◌<◌, ◌≤◌, All, IsTrue, Some, codes, is_some, length, option_copied};
 ghost use Rattle.base_types.specs.Limits.{most_nodes};
 ghost use Rattle.tree_types.specs.declared.path.Sel.TheVariants as sels;
 ghost use Rattle.fanout.specs.Items.{is_whole, items};
@@ -16,12 +16,13 @@ ghost use Rattle.tree_walk.specs.Index.{IsReady};
 ghost use Rattle.tree_walk.specs.Walkable.{IsNamed, AreNamed, IsWalkable};
 ghost use Rattle.tree_walk.specs.Walking.{hook_depth, label_of, prefix_of};
 ghost use Rattle.tree_change.specs.Entered.{IsRunning};
-ghost use Rattle.tree_change.specs.Inside.Groups.{KeepsGroup, KeepsGroups};
+ghost use Rattle.tree_change.specs.Inside.Groups.{KeepsFront, KeepsGroup};
 ghost use Rattle.tree_change.specs.Inside.Resuming.{Resumes, calls_now, calls_before};
 
+use crate::front::Front;
 use crate::leaf::{is_running, runs_on};
 use crate::share::{
-    group_below, item_below, member_below, shared_group, take_others, task_below, untagged,
+    group_below, item_below, member_below, shared_first, take_others, task_below, untagged,
 };
 use base_types::{List, Text, TryCopy};
 use call_nodes::{copy_place, group_place, item_place, member_place};
@@ -34,7 +35,7 @@ use scopes::Scope;
 use tree_state::{Room, Shared, State, TreeRefused};
 use tree_types::Sel;
 use tree_walk::{
-    After, FURTHER_DEPTHS, Group, Listed, Positions, Row, Walk, group_over, steps_over, top_state,
+    After, FURTHER_DEPTHS, Group, Listed, Positions, Walk, group_over, steps_over, top_state,
 };
 use wf_manifest::{
     Arguments, Call, Group as Calls, Groups, Json, Loop, Manifest, Memoize, OutputDecls, Template,
@@ -370,7 +371,7 @@ impl<R: Recorded> Again<'_, R> {
             Gives room.old room.new result
             (meant.template_made A (calls_now R.answers self.now left) place scope.now template.now) }
     {
-        let Some((groups, j, others)) = group_below(template, rest) else {
+        let Some((groups, j, others)) = group_below(template, old, rest) else {
             return self.other(place, scope, template, old, rest, left, room);
         };
         let declared = &template.outputs;
@@ -441,6 +442,7 @@ impl<R: Recorded> Again<'_, R> {
         requires resumes { Resumes R.answers self.now (place.sels ++ sels.Group j ∷ rest.now) }
         requires named { AreNamed groups.now }
         requires shallow { place.depth + 5 * left + 8 < 1000 }
+        requires exists { IsTrue (is_some (call_at old.now.parts j)) }
         requires was { old.now ≡ steps.steps_made (calls_before R.answers self.now left) place scope.now declared.now groups.now }
         ensures { Gives room.old room.new result (meant.saving place memoize.now key
             (steps.steps_made (calls_now R.answers self.now left) place scope.now declared.now groups.now)) }
@@ -467,17 +469,19 @@ impl<R: Recorded> Again<'_, R> {
         requires resumes { Resumes R.answers self.now (place.sels ++ sels.Group j ∷ rest.now) }
         requires named { AreNamed groups.now }
         requires shallow { place.depth + 5 * left + 8 < 1000 }
+        requires exists { IsTrue (is_some (call_at old.now.parts j)) }
         requires was { old.now ≡ steps.steps_made (calls_before R.answers self.now left) place scope.now declared.now groups.now }
         ensures { Gives room.old room.new result
             (steps.steps_made (calls_now R.answers self.now left) place scope.now declared.now groups.now) }
     {
         room.take()?;
         let before = old.calls()?;
-        let row = self.groups(&place, scope, groups, &before, j, rest, left, room)?;
-        Ok(steps_over(place, declared, row)?)
+        let mut front = self.groups(&place, scope, groups, &before, j, rest, left, room)?;
+        front.ready_for_outputs(scope, groups, declared)?;
+        Ok(steps_over(place, declared, front.into_row())?)
     }
 
-    // The groups that exist.
+    // The groups that exist: those in front of group `j` are shared.
     #[cycle(again)]
     fn groups(
         &self,
@@ -489,30 +493,34 @@ impl<R: Recorded> Again<'_, R> {
         rest: &[Sel],
         left: u32,
         room: &mut Room,
-    ) -> Result<Row, TreeRefused>
+    ) -> Result<Front, TreeRefused>
         requires resumes { Resumes R.answers self.now (place.now.sels ++ sels.Group j ∷ rest.now) }
         requires named { AreNamed groups.now }
         requires few { room.now ≤ most_nodes }
         requires shallow { place.now.depth + 5 * left + 8 < 1000 }
+        requires exists { j < length old.now }
         requires was { old.now ≡ (steps.groups_from (calls_before R.answers self.now left) place.now 0 scope.now groups.now).all }
-        ensures { KeepsGroups room.old room.new result
+        ensures { KeepsFront room.old room.new result scope.now
             (steps.groups_from (calls_now R.answers self.now left) place.now 0 scope.now groups.now) }
     {
-        let mut row = Row::new(self.walk.alloc(), scope)?;
-        let mut i: u32 = 0;
-        for calls in groups.as_slice() {
-            let group = self.group_at(place, i, &row.scope, calls, old, j, rest, left, room)?;
+        let mut front = Front::new(scope, shared_first(old, j as usize, room)?)?;
+        let before = old.get(j as usize).state();
+        let many = before.count();
+        for i in j as usize..groups.len() {
+            let calls = groups.get(i);
+            front.ready_for_group(scope, groups, calls, many)?;
+            let inner = &front.row.scope;
+            let group = self.group_at(place, i as u32, inner, calls, before, j, rest, left, room)?;
             let goes_on = group.has_succeeded();
-            row.add(group)?;
+            front.add(group)?;
             if !goes_on {
-                return Ok(row);
+                return Ok(front);
             }
-            i += 1;
         }
-        Ok(row)
+        Ok(front)
     }
 
-    // Group `i`: shared in front of the one that the path goes down into, and made anew behind it.
+    // Group `i`: the one that the path goes down into, or one behind it, which is made anew.
     #[cycle(again)]
     fn group_at(
         &self,
@@ -520,7 +528,7 @@ impl<R: Recorded> Again<'_, R> {
         i: u32,
         scope: &Scope,
         calls: &Calls,
-        old: &List<Shared>,
+        old: &State,
         j: u32,
         rest: &[Sel],
         left: u32,
@@ -529,20 +537,17 @@ impl<R: Recorded> Again<'_, R> {
         requires resumes { Resumes R.answers self.now (place.now.sels ++ sels.Group j ∷ rest.now) }
         requires named { All IsNamed calls.now }
         requires shallow { place.now.depth + 5 * left + 8 < 1000 }
-        requires was { i ≤ j → slice_get old.now i ≡ Some (steps.group_made (steps.group_place place.now i)
-            (steps.members_at (calls_before R.answers self.now left) place.now i scope.now calls.now)) }
+        requires turn { j ≤ i }
+        requires was { i ≡ j → old.now ≡ steps.group_made (steps.group_place place.now i)
+            (steps.members_at (calls_before R.answers self.now left) place.now i scope.now calls.now) }
         ensures { KeepsGroup room.old room.new result (steps.group_place place.now i)
             (steps.members_at (calls_now R.answers self.now left) place.now i scope.now calls.now) }
     {
-        if i < j {
-            return shared_group(calls, old.get(i as usize), room);
-        }
         let at = group_place(place, i)?;
         if j < i {
             return self.walk.group(at, scope, calls, left, room);
         }
-        let before = old.get(i as usize).state();
-        self.group(at, scope, calls, before, rest, left, room)
+        self.group(at, scope, calls, old, rest, left, room)
     }
 
     // A group of steps, with the tags of its members where it Succeeded. Where it runs on, all members but the one that the

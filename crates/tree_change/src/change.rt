@@ -7,7 +7,6 @@ ghost use Rattle.wf_manifest.specs.declared.templates.Body.TheVariants as body;
 ghost use Rattle.meaning.specs.Answers.{Sels};
 ghost use Rattle.meaning.specs.Lines.{lines_in};
 ghost use Rattle.meaning.specs.Pods.{pod_made};
-ghost use Rattle.tree_change.specs.Asking.{place_in, AsksNoMore};
 ghost use Rattle.tree_change.specs.Entered.{IsRunning, place_of};
 ghost use Rattle.tree_change.specs.Changes.{IfGiven, TopChanges, CallChanges, OneChanges, TemplateChanges, StepsChange, GroupChanges, DagChanges, LoopChanges};
 ghost use Rattle.tree_walk.specs.Index.{IsReady};
@@ -16,7 +15,6 @@ use crate::leaf::{
     has_hook, is_running, is_uncached, is_unlocked, item_at, place_of, pod_state, retried_state,
     split,
 };
-use crate::pods::asks_no_more;
 use base_types::{Memory, Text};
 use dag_stays::call_of_task;
 use meaning::Place;
@@ -26,12 +24,11 @@ use tree_types::Sel;
 use tree_walk::{Positions, find_template};
 use wf_manifest::{Body, Call, Dag, Group, Groups, Manifest, Template};
 
-// A manifest, where its templates stand, what is recorded of it together with the fact, and whether no new pod may be asked for.
+// A manifest, where its templates stand, and what is recorded of it together with the fact.
 struct Change<'a, R> {
     manifest: &'a Manifest,
     positions: &'a Positions,
     recorded: &'a R,
-    quiet: bool,
 }
 
 impl<R> Drop for Change<'_, R> {
@@ -40,7 +37,6 @@ impl<R> Drop for Change<'_, R> {
             manifest: _,
             positions: _,
             recorded: _,
-            quiet: _,
         } = self;
     }
 }
@@ -49,27 +45,23 @@ impl<R> Drop for Change<'_, R> {
 /// path of the fact has behind the node of the entrypoint or the exit handler.
 ///
 /// There is none where more may change than the nodes on the way to the fact: where a call below ends with it that others
-/// wait for, and in some forms of call. Where it is to be quiet, there is also none where a pod may be asked for that was not
-/// asked for before, or where nodes come to stand: so the nodes keep their places.
+/// wait for, and in some forms of call.
 pub fn changed_top<R: Recorded>(
     manifest: &Manifest,
     positions: &Positions,
     recorded: &R,
-    quiet: bool,
     old: &State,
     template: &Text,
     rest: &[Sel],
 ) -> Result<Option<State>, Memory>
     requires { IsReady manifest.now positions.now }
-    ensures makes { TopChanges manifest.now (R.answers recorded.now) old.now rest.now result
+    ensures { TopChanges manifest.now (R.answers recorded.now) old.now rest.now result
         template.now }
-    ensures keeps { IsTrue quiet → IfGiven result (λ new. AsksNoMore (lines_in new) (lines_in old.now)) }
 {
     let change = Change {
         manifest,
         positions,
         recorded,
-        quiet,
     };
     if !is_running(old) {
         return Ok(None);
@@ -84,8 +76,7 @@ impl<R: Recorded> Change<'_, R> {
     #[cycle(change)]
     fn call(&self, old: &State, call: &Call, rest: &[Sel]) -> Result<Option<State>, Memory>
         requires { IsReady self.now.manifest.now self.now.positions.now }
-        ensures makes { CallChanges self.now.manifest.now (R.answers self.now.recorded.now) old.now rest.now result call.now }
-        ensures keeps { IsTrue self.now.quiet → IfGiven result (λ new. AsksNoMore (lines_in new) (lines_in old.now)) }
+        ensures { CallChanges self.now.manifest.now (R.answers self.now.recorded.now) old.now rest.now result call.now }
     {
         if !is_running(old) {
             return Ok(None);
@@ -106,8 +97,7 @@ impl<R: Recorded> Change<'_, R> {
     #[cycle(change)]
     fn item(&self, old: &State, call: &Call, i: u32, rest: &[Sel]) -> Result<Option<State>, Memory>
         requires { IsReady self.now.manifest.now self.now.positions.now }
-        ensures makes { (l : Loop) → LoopChanges self.now.manifest.now (R.answers self.now.recorded.now) old.now rest.now result call.now l i }
-        ensures keeps { IsTrue self.now.quiet → IfGiven result (λ new. AsksNoMore (lines_in new) (lines_in old.now)) }
+        ensures { (l : Loop) → LoopChanges self.now.manifest.now (R.answers self.now.recorded.now) old.now rest.now result call.now l i }
     {
         let Some(item) = old.call_at(i as usize) else {
             return Ok(None);
@@ -129,8 +119,7 @@ impl<R: Recorded> Change<'_, R> {
     #[cycle(change)]
     fn one(&self, old: &State, call: &Call, rest: &[Sel]) -> Result<Option<State>, Memory>
         requires { IsReady self.now.manifest.now self.now.positions.now }
-        ensures makes { OneChanges self.now.manifest.now (R.answers self.now.recorded.now) old.now rest.now result call.now }
-        ensures keeps { IsTrue self.now.quiet → IfGiven result (λ new. AsksNoMore (lines_in new) (lines_in old.now)) }
+        ensures { OneChanges self.now.manifest.now (R.answers self.now.recorded.now) old.now rest.now result call.now }
     {
         if !is_running(old) {
             return Ok(None);
@@ -159,8 +148,7 @@ impl<R: Recorded> Change<'_, R> {
         requires circle { HasNoCircle template.now.body }
         requires fits { IsTrue (retry_fits template.now.retry) }
         requires runs { IsRunning old.now }
-        ensures makes { TemplateChanges self.now.manifest.now (R.answers self.now.recorded.now) old.now rest.now result template.now }
-        ensures keeps { IsTrue self.now.quiet → IfGiven result (λ new. AsksNoMore (lines_in new) (lines_in old.now)) }
+        ensures { TemplateChanges self.now.manifest.now (R.answers self.now.recorded.now) old.now rest.now result template.now }
     {
         match &template.body {
             Body::Pod => self.pod(old, template),
@@ -170,13 +158,12 @@ impl<R: Recorded> Change<'_, R> {
         }
     }
 
-    // A pod of which the cache is not asked. One with a retry may ask for a further attempt.
+    // A pod of which the cache is not asked, at the place of the node before it.
     fn pod(&self, old: &State, template: &Template) -> Result<Option<State>, Memory>
         requires runs { IsRunning old.now }
         requires form { template.now.body ≡ body.Pod }
         requires fits { IsTrue (retry_fits template.now.retry) }
-        ensures makes { (rest : Sels) → TemplateChanges self.now.manifest.now (R.answers self.now.recorded.now) old.now rest result template.now }
-        ensures keeps { IsTrue self.now.quiet → IfGiven result (λ new. AsksNoMore (lines_in new) (lines_in old.now)) }
+        ensures { (rest : Sels) → TemplateChanges self.now.manifest.now (R.answers self.now.recorded.now) old.now rest result template.now }
     {
         if !is_uncached(template) {
             return Ok(None);
@@ -186,50 +173,15 @@ impl<R: Recorded> Change<'_, R> {
             return Ok(None);
         }
         let Some(retry) = &template.retry else {
-            return self.single(old, place, template);
+            return pod_state(self.recorded, place, &template.outputs);
         };
-        if self.quiet {
-            return Ok(None);
-        }
         retried_state(self.recorded, place, &template.outputs, retry)
-    }
-
-    // A pod without a retry, at the place of the node before it.
-    fn single(
-        &self,
-        old: &State,
-        place: Place,
-        template: &Template,
-    ) -> Result<Option<State>, Memory>
-        requires { place ≡ place_of old.now.own.node }
-        ensures makes { IfGiven result (λ state. state ≡ pod_made (R.answers self.now.recorded.now) place template.now.outputs) }
-        ensures keeps { IsTrue self.now.quiet → IfGiven result (λ new. AsksNoMore (lines_in new) (lines_in old.now)) }
-    {
-        let Some(new) = pod_state(self.recorded, place, &template.outputs)? else {
-            return Ok(None);
-        };
-        if !self.allows(&new, old) {
-            return Ok(None);
-        }
-        Ok(Some(new))
-    }
-
-    // Whether a node may stand in the place of another, by the pods that they ask for.
-    fn allows(&self, new: &State, old: &State) -> bool
-        ensures { place_in new.now.own.node ≡ place_in old.now.own.node → IsTrue self.now.quiet → IsTrue result
-            → AsksNoMore (lines_in new.now) (lines_in old.now) }
-    {
-        if !self.quiet {
-            return true;
-        }
-        asks_no_more(new, old)
     }
 
     #[cycle(change)]
     fn steps(&self, old: &State, groups: &Groups, rest: &[Sel]) -> Result<Option<State>, Memory>
         requires { IsReady self.now.manifest.now self.now.positions.now }
-        ensures makes { StepsChange self.now.manifest.now (R.answers self.now.recorded.now) old.now rest.now result groups.now }
-        ensures keeps { IsTrue self.now.quiet → IfGiven result (λ new. AsksNoMore (lines_in new) (lines_in old.now)) }
+        ensures { StepsChange self.now.manifest.now (R.answers self.now.recorded.now) old.now rest.now result groups.now }
     {
         let Some((first, others)) = split(rest) else {
             return Ok(None);
@@ -260,8 +212,7 @@ impl<R: Recorded> Change<'_, R> {
     fn group(&self, old: &State, calls: &Group, rest: &[Sel]) -> Result<Option<State>, Memory>
         requires ready { IsReady self.now.manifest.now self.now.positions.now }
         requires runs { IsRunning old.now }
-        ensures makes { GroupChanges self.now.manifest.now (R.answers self.now.recorded.now) old.now rest.now result calls.now }
-        ensures keeps { IsTrue self.now.quiet → IfGiven result (λ new. AsksNoMore (lines_in new) (lines_in old.now)) }
+        ensures { GroupChanges self.now.manifest.now (R.answers self.now.recorded.now) old.now rest.now result calls.now }
     {
         let Some((first, others)) = split(rest) else {
             return Ok(None);
@@ -290,8 +241,7 @@ impl<R: Recorded> Change<'_, R> {
     fn dag(&self, old: &State, dag: &Dag, rest: &[Sel]) -> Result<Option<State>, Memory>
         requires ready { IsReady self.now.manifest.now self.now.positions.now }
         requires ranked { HasRank dag.now.tasks }
-        ensures makes { DagChanges self.now.manifest.now (R.answers self.now.recorded.now) old.now rest.now result dag.now }
-        ensures keeps { IsTrue self.now.quiet → IfGiven result (λ new. AsksNoMore (lines_in new) (lines_in old.now)) }
+        ensures { DagChanges self.now.manifest.now (R.answers self.now.recorded.now) old.now rest.now result dag.now }
     {
         let Some((first, others)) = split(rest) else {
             return Ok(None);

@@ -4,8 +4,8 @@
 mod again;
 mod change;
 mod dag_again;
+mod front;
 mod leaf;
-mod pods;
 mod share;
 
 pub use again::made_again;

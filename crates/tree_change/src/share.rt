@@ -1,40 +1,41 @@
 //! What stands beside the way down is shared, and the room of its nodes is taken.
 
-ghost use Rattle.std.specs.Prelude.{◌≡◌, ◌-◌, ◌∷◌, List as Seq, IfOk, IfSome, Some, map};
+ghost use Rattle.std.specs.Prelude.{◌≡◌, ◌-◌, ◌≤◌, ◌∷◌, IfOk, IfSome, IsTrue, Some, is_some, length, take};
 ghost use Rattle.wf_manifest.specs.declared.templates.Body.TheVariants as body;
 ghost use Rattle.tree_types.specs.declared.path.Sel.TheVariants as sels;
-ghost use Rattle.meaning.specs.declared.lines.Place.{Place};
-ghost use Rattle.meaning.specs.Steps as steps;
 ghost use Rattle.tree_state.specs.Counting.{Gives, TakesAll, count};
 ghost use Rattle.tree_state.specs.Replacing.{call_at};
-ghost use Rattle.tree_walk.specs.Walking.{GivesGroup};
+ghost use Rattle.tree_walk.specs.Walking.{GivesRow};
 
 use crate::leaf::split;
-use base_types::{Memory, TryCopy};
-use row_states::group_tags;
+use base_types::{List, Memory, TryCopy};
 use scopes::Tags;
 use std::alloc::Global;
 use tree_state::{Room, Shared, State, TreeRefused};
 use tree_types::Sel;
 use tree_walk::Group;
-use wf_manifest::{Body, Dag, Group as Calls, Groups, Template};
+use wf_manifest::{Body, Dag, Groups, Template};
 
-/// The groups of a steps template, the number of the one that a path goes down into, and what the path has behind it.
+/// The groups of a steps template, the number of the one that a path goes down into, which exists, and what the path has
+/// behind it.
 pub fn group_below<'a>(
     template: &'a Template,
+    old: &State,
     path: &'a [Sel],
 ) -> Option<(&'a Groups, u32, &'a [Sel])>
     ensures steps { IfSome result (λ below. template.now.body ≡ body.Steps below.0.now) }
     ensures path { IfSome result (λ below. path.now ≡ sels.Group below.1 ∷ below.2.now) }
+    ensures exists { IfSome result (λ below. IsTrue (is_some (call_at old.now.parts below.1))) }
 {
     let Body::Steps(groups) = &template.body else {
         return None;
     };
     let (first, others) = split(path)?;
-    match first {
-        Sel::Group(i) => Some((groups, i, others)),
-        _ => None,
-    }
+    let Sel::Group(i) = first else {
+        return None;
+    };
+    old.call_at(i as usize)?;
+    Some((groups, i, others))
 }
 
 /// The DAG of a template, the number of the task that a path goes down into, and what the path has behind it.
@@ -93,15 +94,20 @@ pub fn shared(old: &Shared, room: &mut Room) -> Result<Shared, TreeRefused>
     Ok(old.copy()?)
 }
 
-/// A group over what its members made, once more.
-pub fn shared_group(calls: &Calls, old: &Shared, room: &mut Room) -> Result<Group, TreeRefused>
-    ensures { (place : Place) (ms : Seq steps.Member) → map (λ m. m.0) ms ≡ calls.now →
-        old.now ≡ steps.group_made place ms → GivesGroup room.old room.new result place ms }
+/// What the first calls of a row made, once more.
+pub fn shared_first(
+    old: &List<Shared>,
+    count: usize,
+    room: &mut Room,
+) -> Result<List<Shared>, TreeRefused>
+    requires { count ≤ length old.now }
+    ensures { GivesRow room.old room.new result (take count old.now) }
 {
-    let made = shared(old, room)?;
-    let states = made.state().calls()?;
-    let tags = group_tags(calls, &states)?;
-    Ok(Group { state: made, tags })
+    let mut states = List::new(old.allocator());
+    for i in 0..count {
+        states.push(shared(old.get(i), room)?)?;
+    }
+    Ok(states)
 }
 
 /// A group without the tags of its members, which are not asked for before it Succeeded.

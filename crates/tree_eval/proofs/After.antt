@@ -14,8 +14,6 @@ use Rattle.meaning.specs.Lines.{Made, lines_in}
 use Rattle.meaning.specs.Trees.{main_made, exit_if, exit_of, exit_lines, lock_granted, ended_phase, running_phase, granted_phase, started_phase, phase, lines, nodes_in}
 use Rattle.locality.specs.Answered.{SameBut}
 use Rattle.tree_state.specs.Counting.{count}
-use Rattle.tree_change.specs.Asking.{AsksNoMore}
-use Rattle.tree_change.proofs.Asking.{asks_same, asks_then}
 use Rattle.tree_eval.specs.Whole.{Pair, pair, Whole, whole, lines_of}
 use Rattle.tree_eval.specs.Inside.Tops.{count_exit, meant_tops, count_tops}
 use Rattle.tree_eval.specs.Inside.Stages.{Runs}
@@ -73,17 +71,3 @@ runs_still m A B changed rest same way runs = record {
     by : (o : Option LockId) → lock_granted B o ≡ true → lock_granted A o ≡ true
     by None e = refl
     by (Some l) e = same.granted [] (ap (sels_eq []) way) ∙ e
-
--- ---- what is asked for
-
-no_exit : (o : Option Made) → false ≡ is_some o → o ≡ None
-no_exit None off = refl
-no_exit (Some h) off = absurd (cc)
-
--- without an exit handler the entrypoint alone asks
-pub asks_no_more : (w : Whole) (old main : Made) (exit : Option Made) → old ≡ w.main → exit ≡ w.exit → false ≡ is_some exit →
-    AsksNoMore (lines_in main) (lines_in old) → AsksNoMore (lines_in main ++ []) (lines_of w)
-asks_no_more w old main exit is ends off less =
-    subst (λ (ls : List Line). AsksNoMore (lines_in main ++ []) ls)
-    (ap₂ (λ (b : Made) (o : Option Made). lines_in b ++ exit_lines o) is (sym (no_exit exit off) ∙ ends))
-    (asks_then (lines_in main) [] (lines_in old) [] less (asks_same []))

@@ -1,6 +1,6 @@
 //! What the entrypoint makes, and the exit handler.
 
-ghost use Rattle.std.specs.Prelude.{◌≡◌, ◌∷◌, IfOk, IfSome, OnOk, option_copied, option_map, length};
+ghost use Rattle.std.specs.Prelude.{◌≡◌, ◌≤◌, ◌^◌, ◌∷◌, IfOk, IfSome, OnOk, MatchOption, option_copied, option_map, length};
 ghost use Rattle.std.specs.List.{find};
 ghost use Rattle.meaning.specs.Trees.{nodes_in, wants_in, beginnings_in};
 ghost use Rattle.tree_state.specs.Asking.{is_of, first};
@@ -188,6 +188,18 @@ impl Tops {
         match &self.exit {
             None => self.main.count(),
             Some(exit) => self.main.count() + exit.count(),
+        }
+    }
+
+    /// How many pods both ask for, where that can be counted.
+    pub fn pods(&self) -> Option<usize>
+        ensures { MatchOption result (2 ^ 64 ≤ length (pods_in (wants_in (inside.lines_of self.now))))
+            (λ count. count ≡ length (pods_in (wants_in (inside.lines_of self.now)))) }
+    {
+        let main = self.main.pods();
+        match &self.exit {
+            None => Some(main),
+            Some(exit) => main.checked_add(exit.pods()),
         }
     }
 

@@ -1,6 +1,6 @@
 //! The tree of a workflow, kept as it was made.
 
-ghost use Rattle.std.specs.Prelude.{◌≡◌, ◌≢◌, ◌∷◌, Err, IfOk, IfSome, IsTrue, length, option_copied, option_map};
+ghost use Rattle.std.specs.Prelude.{◌≡◌, ◌≢◌, ◌≤◌, ◌^◌, ◌∷◌, Err, IfOk, IfSome, MatchOption, length, option_copied, option_map};
 ghost use Rattle.std.specs.List.{find};
 ghost use Rattle.meaning.specs.Trees.{nodes_in, wants_in, beginnings_in};
 ghost use Rattle.tree_state.specs.declared.refused.TreeRefused.TheVariants as refused;
@@ -11,7 +11,6 @@ ghost use Rattle.tree_types.specs.declared.phase.Phase.TheVariants.{Running};
 ghost use Rattle.locality.specs.Answered.{SameBut};
 ghost use Rattle.wf_manifest.specs.Valid.{Valid};
 ghost use Rattle.tree_walk.specs.Index.{IsReady};
-ghost use Rattle.tree_change.specs.Asking.{AsksNoMore};
 ghost use Rattle.tree_eval.specs.After.{IsMeant, RunsOn};
 ghost use Rattle.tree_eval.specs.Pods.{NoneAmong};
 ghost use Rattle.tree_eval.specs.Inside.Stages.{GivesWhole};
@@ -77,8 +76,7 @@ impl WorkflowTree {
     }
 
     /// The tree once one fact more is recorded, where no more changes than the nodes on the way to the fact: `changed` is the
-    /// path of the fact, `before` what was recorded without it, and all other nodes are shared. Where it is to be quiet, the nodes
-    /// keep their places, and no pod is asked for that was not asked for before: there is none where that may not be so.
+    /// path of the fact, `before` what was recorded without it, and all other nodes are shared.
     ///
     /// There is none where more may change: where the workflow did not run, where the fact is none of the entrypoint, where
     /// the exit handler runs, and where something waits for what the fact ends.
@@ -88,15 +86,12 @@ impl WorkflowTree {
         positions: &Positions,
         recorded: &R,
         before: &R,
-        quiet: bool,
         changed: &[Sel],
     ) -> Result<Option<WorkflowTree>, Memory>
         requires ready { IsReady manifest.now positions.now }
         requires same { SameBut (R.answers recorded.now) (R.answers before.now) changed.now }
         requires tree { self.now ≡ whole manifest.now (R.answers before.now) }
-        ensures meant { RunsOn manifest.now (R.answers recorded.now) result }
-        ensures keeps { IsTrue quiet → IfOk result (λ made.
-            IfSome made (λ tree. AsksNoMore (lines_of tree) (lines_of self.now))) }
+        ensures { RunsOn manifest.now (R.answers recorded.now) result }
     {
         let Some(rest) = self.below_main(changed) else {
             return Ok(None);
@@ -106,7 +101,7 @@ impl WorkflowTree {
         }
         let old = &self.tops.main;
         let entry = &manifest.entrypoint;
-        let Some(main) = changed_top(manifest, positions, recorded, quiet, old, entry, rest)? else {
+        let Some(main) = changed_top(manifest, positions, recorded, old, entry, rest)? else {
             return Ok(None);
         };
         if main.is_finished() {
@@ -195,6 +190,14 @@ impl WorkflowTree {
         ensures { result ≡ length (nodes_in (lines_of self.now)) }
     {
         self.tops.count()
+    }
+
+    /// How many pods are asked for, where that can be counted.
+    pub fn pods(&self) -> Option<usize>
+        ensures { MatchOption result (2 ^ 64 ≤ length (pods_in (wants_in (lines_of self.now))))
+            (λ count. count ≡ length (pods_in (wants_in (lines_of self.now)))) }
+    {
+        self.tops.pods()
     }
 
     /// The first want of a kind, in tree order, found without a walk over what asks for none of the kind.

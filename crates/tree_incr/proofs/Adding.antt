@@ -1,17 +1,17 @@
 -- A workflow with one fact more.
 use Rattle.std.proofs.Common.{◌≡◌, ◌++◌, Bool, true, false, cond, [], ◌∷◌, length, Result, Ok, Err, refl, sym, ap, ◌∙◌, subst}
-use Rattle.std.specs.Prelude.{IfOk, IsErrAnd, IsTrue, nat_le}
-use Rattle.std.specs.Result.{result_map_both}
+use Rattle.std.specs.Prelude.{IsErrAnd, nat_le}
 use Rattle.base_types.specs.Limits.{most_nodes}
 use Rattle.tree_types.specs.declared.fact.Fact.{Fact}
 use Rattle.wf_manifest.specs.declared.manifest.Manifest.{Manifest}
 use Rattle.meaning.specs.Answers.{Facts, answers}
-use Rattle.meaning.specs.Trees.{tree, lines}
+use Rattle.meaning.specs.Trees.{tree}
 use Rattle.tree_state.specs.declared.refused.TreeRefused.{TreeRefused}
 use Rattle.tree_state.specs.declared.refused.TreeRefused.TheVariants.{TooLarge, Memory}
-use Rattle.tree_change.specs.Asking.{AsksNoMore}
-use Rattle.tree_eval.specs.Whole.{Whole, whole, meant_whole, lines_of, LinesAreMeant}
-use Rattle.tree_incr.specs.Inside.{NoPodIf}
+use Rattle.tree_eval.specs.Whole.{Whole, whole, meant_whole}
+use Rattle.tree_incr.specs.declared.new_pods.NewPods.{NewPods}
+use Rattle.tree_incr.specs.NewPods.{TellsNewPods}
+use Rattle.tree_incr.specs.Inside.{IsTreeOf}
 use Rattle.tree_incr.specs.Workflows.{Workflow, with_fact, added}
 
 -- ---- what is within a bound
@@ -63,18 +63,10 @@ module _ (w : Workflow) (f : Fact) (K : Facts) (more : K ≡ w.facts ++ f ∷ []
       let is_memory : (s : Result Whole TreeRefused) → s ≡ Err e → s ≡ Err Memory → ⊥ = λ s same h. told (ap (λ (y : TreeRefused). Err y) (is ∙ error_of s e same h)) in
       ap (λ (y : TreeRefused). Err y) is ∙ past_by e (given (Err e) refl (is_memory (Err e) refl))
 
--- ---- a fact that adds no pod
+-- ---- the same of equal facts
 
--- by the way in which the tree was made
-pub no_pod_by : (m : Manifest) (J K : Facts) (f : Fact) → K ≡ J ++ f ∷ [] → (before : Whole) → lines_of before ≡ lines m (answers J) → LinesAreMeant → (r : Result (Whole × Bool) TreeRefused) →
-    (IsTold r → result_map_both (λ made. made.0) (λ e. e) r ≡ meant_whole m (answers K)) → IfOk r (λ made. IsTrue made.1 → AsksNoMore (lines_of made.0) (lines_of before)) →
-    IfOk r (λ made. NoPodIf made.1 record { manifest = m; facts = K })
-no_pod_by m J K f more before then meant (Err e) told keeps = tt
-no_pod_by m J K f more before then meant (Ok made) told keeps = λ known.
-    let now : lines_of made.0 ≡ lines m (answers K) = ap lines_of (tree_within record { manifest = m; facts = J } f K more made.0 (told (is_told made))) ∙ meant m (answers K) in
-    record {
-      before = J;
-      fact = f;
-      last = more;
-      no_more = subst (λ old. AsksNoMore (lines m (answers K)) old) then (subst (λ new. AsksNoMore new (lines_of before)) now (keeps known));
-    }
+pub tree_of : (m : Manifest) (J K : Facts) (t : Whole) → K ≡ J → t ≡ whole m (answers K) → IsTreeOf t m J
+tree_of m J K t same is = record { meant = subst (λ (x : Facts). t ≡ whole m (answers x)) same is }
+
+pub tells_of : (m : Manifest) (J K : Facts) (r : NewPods) → K ≡ J → TellsNewPods r record { manifest = m; facts = J } → TellsNewPods r record { manifest = m; facts = K }
+tells_of m J K r same told = subst (λ (x : Facts). TellsNewPods r record { manifest = m; facts = x }) (sym same) told

@@ -2,8 +2,10 @@
 #![tactic(auto)]
 
 mod finding;
+mod new_pods;
 mod next;
 mod state;
 
+pub use new_pods::NewPods;
 pub use state::TreeState;
 pub use tree_eval::{Evaluated, NodeTest, TreeRefused, WantKind, WantTest};

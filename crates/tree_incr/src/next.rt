@@ -1,14 +1,12 @@
 //! The tree of a workflow, made anew or from the one before.
 
-ghost use Rattle.std.specs.Prelude.{◌≡◌, ◌≢◌, [], Err, IfOk, IfSome, IsTrue};
-ghost use Rattle.std.specs.Result.{result_map_both};
+ghost use Rattle.std.specs.Prelude.{◌≡◌, ◌≢◌, [], Err, IfOk};
 ghost use Rattle.wf_manifest.specs.Valid.{Valid};
 ghost use Rattle.meaning.specs.Answers.{answers};
 ghost use Rattle.locality.specs.Answered.{sels_of};
 ghost use Rattle.tree_state.specs.declared.refused.TreeRefused.TheVariants as refused;
 ghost use Rattle.tree_walk.specs.Index.{IsReady};
-ghost use Rattle.tree_change.specs.Asking.{AsksNoMore};
-ghost use Rattle.tree_eval.specs.Whole.{whole, meant_whole, lines_of};
+ghost use Rattle.tree_eval.specs.Whole.{whole, meant_whole};
 ghost use Rattle.tree_eval.specs.After.{IsMeant, RunsOn};
 ghost use Rattle.tree_incr.specs.Inside.{IsOneMore};
 
@@ -50,8 +48,7 @@ pub fn unstarted_tree(manifest: &Manifest, facts: &SharedFacts) -> Result<Workfl
     }
 }
 
-// The tree by the one before, where no more changes than the nodes on the way to the fact; where it is to be quiet, only if no
-// new pod is asked for.
+// The tree by the one before, where no more changes than the nodes on the way to the fact.
 fn along(
     manifest: &Manifest,
     positions: &Positions,
@@ -59,19 +56,16 @@ fn along(
     known: &SharedFacts,
     facts: &SharedFacts,
     changed: &Option<Sels>,
-    quiet: bool,
 ) -> Result<Option<WorkflowTree>, Memory>
     requires ready { IsReady manifest.now positions.now }
     requires tree { before.now ≡ whole manifest.now (answers known.now) }
     requires more { IsOneMore known.now facts.now changed.now }
-    ensures meant { RunsOn manifest.now (answers facts.now) result }
-    ensures keeps { IsTrue quiet → IfOk result (λ made.
-        IfSome made (λ tree. AsksNoMore (lines_of tree) (lines_of before.now))) }
+    ensures { RunsOn manifest.now (answers facts.now) result }
 {
     facts_are_local();
     match changed {
         None => Ok(None),
-        Some(sels) => before.along(manifest, positions, facts, known, quiet, sels.as_slice()),
+        Some(sels) => before.along(manifest, positions, facts, known, sels.as_slice()),
     }
 }
 
@@ -116,8 +110,7 @@ fn following_or_new(
     }
 }
 
-/// The tree once a fact is recorded behind those that were known; and whether it is known, from the way in which it was made,
-/// that it asks for no pod that the one before does not ask for, and that its nodes have kept their places.
+/// The tree once a fact is recorded behind those that were known.
 pub fn next_tree(
     manifest: &Manifest,
     positions: &Positions,
@@ -125,22 +118,14 @@ pub fn next_tree(
     known: &SharedFacts,
     facts: &SharedFacts,
     changed: &Option<Sels>,
-) -> Result<(WorkflowTree, bool), TreeRefused>
+) -> Result<WorkflowTree, TreeRefused>
     requires ready { IsReady manifest.now positions.now }
     requires tree { before.now ≡ whole manifest.now (answers known.now) }
     requires more { IsOneMore known.now facts.now changed.now }
-    ensures meant { result ≢ Err refused.Memory
-        → result_map_both (λ made. made.0) (λ e. e) result
-        ≡ meant_whole manifest.now (answers facts.now) }
-    ensures keeps { IfOk result (λ made. IsTrue made.1
-        → AsksNoMore (lines_of made.0) (lines_of before.now)) }
+    ensures { result ≢ Err refused.Memory → result ≡ meant_whole manifest.now (answers facts.now) }
 {
-    if let Some(tree) = along(manifest, positions, before, known, facts, changed, true)? {
-        return Ok((tree, true));
+    match along(manifest, positions, before, known, facts, changed)? {
+        Some(tree) => Ok(tree),
+        None => following_or_new(manifest, positions, before, known, facts, changed),
     }
-    if let Some(tree) = along(manifest, positions, before, known, facts, changed, false)? {
-        return Ok((tree, false));
-    }
-    let tree = following_or_new(manifest, positions, before, known, facts, changed)?;
-    Ok((tree, false))
 }

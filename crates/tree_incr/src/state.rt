@@ -1,25 +1,33 @@
 //! A workflow with its tree.
 
-ghost use Rattle.std.specs.Prelude.{◌≡◌, ◌≢◌, Err, IfOk, IsTrue, length, option_copied};
+ghost use Rattle.std.specs.Prelude.{◌≡◌, ◌≢◌, ◌++◌, ◌∷◌, [], Err, IfOk, IsTrue, length, option_copied};
 ghost use Rattle.std.specs.List.{find};
-ghost use Rattle.std.specs.Result.{result_map_both};
+ghost use Rattle.tree_types.specs.declared.fact.Fact.{Fact as Recordable};
+ghost use Rattle.tree_types.specs.declared.node.Kind.TheVariants as kinds;
+ghost use Rattle.tree_types.specs.declared.phase.Phase.TheVariants as phases;
+ghost use Rattle.tree_types.specs.declared.want.Want.TheVariants as wanted;
 ghost use Rattle.wf_manifest.specs.Valid.{Valid as IsValid};
 ghost use Rattle.meaning.specs.Answers.{answers};
 ghost use Rattle.meaning.specs.Trees as trees;
 ghost use Rattle.tree_state.specs.declared.refused.TreeRefused.TheVariants as refused;
 ghost use Rattle.tree_state.specs.Asking.{is_of, first};
+ghost use Rattle.growth.specs.Growth.{Among};
+ghost use Rattle.pod_laws.specs.NewPods.{pods};
 ghost use Rattle.tree_eval.specs.Whole.{meant_whole};
-ghost use Rattle.tree_incr.specs.Workflows.{unstarted, added, told};
-ghost use Rattle.tree_incr.specs.NewPods.{AddsNoPod};
+ghost use Rattle.tree_incr.specs.Workflows.{unstarted, with_fact, added, told};
+ghost use Rattle.tree_incr.specs.NewPods.{TellsNewPods};
 
+use crate::new_pods::{NewPods, by_counts};
 use crate::next::{next_tree, path_of, unstarted_tree};
+use askings::laws::waits_ask;
 use base_types::{Memory, TryCopy};
+use pod_laws::laws::{names_are_kept, none_new_by_count, one_new_by_count};
 use shared_facts::SharedFacts;
 use std::marker::Model;
 use std::sync::Arc;
 use tree_eval::law::lines_are_meant;
 use tree_eval::{Evaluated, TreeRefused, WantKind, WorkflowTree};
-use tree_types::{Fact, Path, Phase, Sels, Want};
+use tree_types::{Fact, Kind, Node, Path, Phase, Sels, Want};
 use tree_walk::{Positions, positions_of};
 use wf_check::Valid;
 use wf_manifest::Manifest;
@@ -33,8 +41,7 @@ pub struct TreeState {
     positions: Arc<Positions>,
     facts: SharedFacts,
     pub(crate) tree: Arc<WorkflowTree>,
-    // Whether it is known that the last fact adds no pod.
-    adds_no_pod: bool,
+    new_pods: NewPods,
 }
 
 // Written out, so that proofs about code that drops a state see one call.
@@ -45,7 +52,7 @@ impl Drop for TreeState {
             positions: _,
             facts: _,
             tree: _,
-            adds_no_pod: _,
+            new_pods: _,
         } = self;
     }
 }
@@ -66,7 +73,7 @@ impl Model for TreeState {
 }
 
 impl TreeState {
-    ghost use Rattle.tree_incr.specs.Inside.{IsTreeOf, IsOneMore, NoPodIf};
+    ghost use Rattle.tree_incr.specs.Inside.{IsTreeOf, IsOneMore, IsAnsweredBy};
 
     /// A workflow of which nothing is recorded yet.
     pub fn new(valid: Valid) -> Result<TreeState, Memory>
@@ -82,7 +89,7 @@ impl TreeState {
             positions: Arc::new(alloc, positions)?,
             facts,
             tree: Arc::new(alloc, tree)?,
-            adds_no_pod: false,
+            new_pods: NewPods::Unknown,
         })
     }
 
@@ -93,27 +100,24 @@ impl TreeState {
         ensures { result ≢ Err refused.Memory → result ≡ added self.now fact }
     {
         let changed = path_of(&fact)?;
+        let answered = self.answered_by(&fact);
         let mut facts = self.facts.share()?;
         facts.add(fact)?;
-        let made = self.grown(&facts, &changed)?;
-        let (tree, adds_no_pod) = made;
-        Ok(self.over(facts, tree, adds_no_pod)?)
+        let tree = self.grown(&facts, &changed)?;
+        let new_pods = self.new_pods_in(answered, &tree);
+        Ok(self.over(facts, tree, new_pods)?)
     }
 
-    // The tree over these facts, one more than those here; and whether it is known that the fact adds no pod.
+    // The tree over these facts, one more than those here.
     fn grown(
         &self,
         facts: &SharedFacts,
         changed: &Option<Sels>,
-    ) -> Result<(WorkflowTree, bool), TreeRefused>
+    ) -> Result<WorkflowTree, TreeRefused>
         requires { IsOneMore self.now.facts facts.now changed.now }
-        ensures meant { result ≢ Err refused.Memory
-            → result_map_both (λ made. made.0) (λ e. e) result
-            ≡ meant_whole self.now.manifest (answers facts.now) }
-        ensures no_pod { IfOk result (λ made. NoPodIf made.1
-            record { manifest = self.now.manifest; facts = facts.now }) }
+        ensures { result ≢ Err refused.Memory
+            → result ≡ meant_whole self.now.manifest (answers facts.now) }
     {
-        lines_are_meant();
         let manifest = self.valid.manifest();
         next_tree(
             manifest,
@@ -125,15 +129,60 @@ impl TreeState {
         )
     }
 
-    // The same manifest over other facts and their tree, and whether it is known that the last fact adds no pod.
+    // How many pods a fact answers, where it answers what is asked for.
+    fn answered_by(&self, fact: &Fact) -> Option<usize>
+        ensures { IsAnsweredBy self.now fact.now result }
+    {
+        match fact {
+            Fact::Settled(path, _) => { if self.runs_pod(path) { Some(1) } else { None } }
+            Fact::Carried(_, _) | Fact::Begun(_) => None,
+            _ => Some(0),
+        }
+    }
+
+    // Whether the node of a path is a pod that runs, so that it is asked for.
+    fn runs_pod(&self, path: &Path) -> bool
+        ensures { IsTrue result
+            → Among (wanted.Pod path.now) (pods self.now.manifest self.now.facts) }
+    {
+        waits_ask();
+        match self.node(path.sels.as_slice()) {
+            None => false,
+            Some(node) => is_running_pod(node),
+        }
+    }
+
+    // What is known of the pods that are asked for in the tree over one fact more, which answers so many.
+    fn new_pods_in(&self, answered: Option<usize>, tree: &WorkflowTree) -> NewPods
+        ensures { (f : Recordable) → IsAnsweredBy self.now f answered
+            → IsTreeOf tree.now self.now.manifest (self.now.facts ++ f ∷ [])
+            → TellsNewPods result (with_fact self.now f) }
+    {
+        lines_are_meant();
+        none_new_by_count();
+        one_new_by_count();
+        names_are_kept();
+        let Some(answered) = answered else {
+            return NewPods::Unknown;
+        };
+        let Some(before) = self.tree.pods() else {
+            return NewPods::Unknown;
+        };
+        let Some(now) = tree.pods() else {
+            return NewPods::Unknown;
+        };
+        by_counts(answered, before, now)
+    }
+
+    // The same manifest over other facts and their tree, and what is known of the pods that are asked for.
     fn over(
         &self,
         facts: SharedFacts,
         tree: WorkflowTree,
-        adds_no_pod: bool,
+        new_pods: NewPods,
     ) -> Result<TreeState, Memory>
         requires tree { IsTreeOf tree self.now.manifest facts }
-        requires no_pod { NoPodIf adds_no_pod record { manifest = self.now.manifest; facts = facts } }
+        requires new_pods { TellsNewPods new_pods record { manifest = self.now.manifest; facts = facts } }
         ensures { IfOk result (λ state. state ≡ record { manifest = self.now.manifest; facts = facts }) }
     {
         let alloc = self.valid.manifest().name.allocator();
@@ -142,7 +191,7 @@ impl TreeState {
             positions: Arc::try_clone(&self.positions)?,
             facts,
             tree: Arc::new(alloc, tree)?,
-            adds_no_pod,
+            new_pods,
         })
     }
 
@@ -162,12 +211,11 @@ impl TreeState {
         &self.facts
     }
 
-    /// Whether it is known that the last fact made the workflow ask for no pod that it did not ask for before. False says
-    /// nothing.
-    pub fn adds_no_pod(&self) -> bool
-        ensures { IsTrue result → AddsNoPod self.now }
+    /// What is known of the pods that the workflow asks for since its last fact.
+    pub fn new_pods(&self) -> NewPods
+        ensures { TellsNewPods result self.now }
     {
-        self.adds_no_pod
+        self.new_pods
     }
 
     /// The phase of the workflow.
@@ -212,6 +260,15 @@ impl TreeState {
     }
 }
 
+fn is_running_pod(node: &Node) -> bool
+    ensures { IsTrue result → (node.now.kind ≡ kinds.Pod) × (node.now.phase ≡ phases.Running) }
+{
+    match (node.kind, node.phase) {
+        (Kind::Pod, Phase::Running) => true,
+        _ => false,
+    }
+}
+
 impl TryCopy for TreeState {
     fn copy(&self) -> Result<TreeState, Memory> {
         Ok(TreeState {
@@ -219,7 +276,7 @@ impl TryCopy for TreeState {
             positions: Arc::try_clone(&self.positions)?,
             facts: self.facts.share()?,
             tree: Arc::try_clone(&self.tree)?,
-            adds_no_pod: self.adds_no_pod,
+            new_pods: self.new_pods,
         })
     }
 }

@@ -1,109 +1,121 @@
--- Marks that outlast a fact by which a workflow asks for no new pod.
-use Rattle.std.proofs.Common.{◌≡◌, ℕ, zero, suc, ◌+◌, ◌<◌, Bool, true, false, cond, List, [], ◌∷◌, ◌++◌, length, get_or, map, take, length-append, refl, sym, ap, ap₂, ◌∙◌, subst, Option, Some, None, option_map, arith}
+-- Marks that outlast a fact by which a workflow asks for no new pod, or for one that was not looked at.
+use Rattle.std.proofs.Common.{◌≡◌, ℕ, ◌+◌, Bool, true, false, true≢false, cond, List, [], ◌∷◌, ◌++◌, length, take, length-append, refl, sym, ap, ap₂, ◌∙◌, subst, Option, None, arith}
 use Rattle.std.specs.Prelude.{◌==◌, is_none}
-use Rattle.std.specs.List.{find, Contains}
+use Rattle.std.specs.List.{find}
 use Rattle.std.proofs.Math.Seq.{take-append_seam}
 use Rattle.std.proofs.lemmas.Bool.Decides.{nat_tests}
 use Rattle.tree_types.specs.declared.path.Path.{Path}
-use Rattle.tree_types.specs.declared.node.Node.{Node}
 use Rattle.tree_types.specs.declared.want.Want.{Want}
 use Rattle.tree_types.specs.declared.want.Want.TheVariants as want
-use Rattle.tree_types.specs.Places.{sels_eq}
-use Rattle.meaning.specs.Answers.{Sels, Facts, answers}
-use Rattle.meaning.specs.Trees.{lines}
+use Rattle.wf_manifest.specs.declared.manifest.Manifest.{Manifest}
+use Rattle.meaning.specs.Answers.{Facts}
+use Rattle.meaning.specs.Trees.{tree}
+use Rattle.growth.specs.Growth.{Among}
 use Rattle.tree_state.specs.Finding.{pods_in}
+use Rattle.pod_laws.specs.NewPods.{pods, name_at, NoneNew, OneNew}
 use Rattle.tree_incr.specs.Workflows.{Workflow}
-use Rattle.tree_change.specs.Asking.{place_in, AsksNoMore}
-use Rattle.tree_incr.specs.NewPods.{AddsNoPod}
+use Rattle.tree_incr.specs.NewPods.{LastAdds}
 use Rattle.law.specs.Documents.{Text}
 use Rattle.law.specs.Contents.{Flow}
 use Rattle.law.specs.Due.{node_name}
-use Rattle.law.specs.Justified.{tree_of, wants_of}
+use Rattle.law.specs.Justified.{wants_of}
 use Rattle.next_step.specs.Views.{Look, found_in}
 use Rattle.worker_job.specs.declared.marks.Marks.{Marks}
+use Rattle.worker_job.specs.declared.marks.Read.{Read}
+use Rattle.worker_job.specs.declared.marks.Read.TheVariants.{First, AllBut}
 use Rattle.worker_job.specs.Jobs.{HasMore}
-use Rattle.worker_job.specs.Inside.Marks.{pod_name, by_name, looks_so, has_ended, notes_absent, all, IsKnown, IsMarked, if_all, of_all}
+use Rattle.worker_job.specs.Inside.Marks.{pod_name, by_name, looks_so, has_ended, notes_absent, unread, all, IsKnown, IsUnread, IsOnlyUnread, IsReadMark, IsMarked, GoesOnBy, if_all, read_of_all, of_all}
+use Rattle.worker_job.proofs.Passing.{off_at, lacks_by}
 use Rattle.worker_job.proofs.Marked.{known_any, known_none}
 
--- ---- a list of which none passes
+-- ---- the pods that were asked for keep their names, so that a test of their last looks says what it said
 
-module _ (t : Want → Bool) where
-  head_off : (x : Want) (xs : List Want) (b : Bool) → cond b (Some x) (find t xs) ≡ None → b ≡ false
-  head_off x xs true lacks = absurd (cc)
-  head_off x xs false lacks = refl
+module _ (ls : List Look) (f g : Flow) (names : (p : Path) → Among (want.Pod p) (pods_in (wants_of f)) → node_name g p.sels ≡ node_name f p.sels) where
+  same_name : (a : Want) → Among a (pods_in (wants_of f)) → pod_name g a ≡ pod_name f a
+  same_name (want.Pod p) here = names p here
+  same_name (want.Lock p l) here = refl
+  same_name (want.LookUp p cache entry age) here = refl
+  same_name (want.Arming p) here = refl
+  same_name (want.Timer p tick) here = refl
+  same_name (want.Save p cache entry o) here = refl
 
-  rest_lacks : (x : Want) (xs : List Want) (b : Bool) → cond b (Some x) (find t xs) ≡ None → find t xs ≡ None
-  rest_lacks x xs true lacks = absurd (cc)
-  rest_lacks x xs false lacks = lacks
+  module _ (test : Option Look → Bool) where
+    off_before : (a : Want) → Among a (pods_in (wants_of f)) → find (looks_so test ls f) (pods_in (wants_of f)) ≡ None → looks_so test ls g a ≡ false
+    off_before a here lacks =
+        ap (by_name test ls) (same_name a here) ∙ off_at (looks_so test ls f) (pods_in (wants_of f)) a here lacks
 
-  off_at : (xs : List Want) (w : Want) (k : ℕ) → k < length xs → get_or xs k w ≡ w → find t xs ≡ None → t w ≡ false
-  off_at [] w k low is lacks = absurd (omega arith)
-  off_at (x ∷ xs) w zero low is lacks = ap t (sym is) ∙ head_off x xs (t x) lacks
-  off_at (x ∷ xs) w (suc k) low is lacks = off_at xs w k (omega arith) is (rest_lacks x xs (t x) lacks)
+    known_by : (n : ℕ) (b : Bool) → (n == all) ≡ b → (find (looks_so test ls f) (pods_in (wants_of f)) ≡ None → find (looks_so test ls g) (pods_in (wants_of g)) ≡ None) → IsKnown n (looks_so test ls f) (pods_in (wants_of f)) → IsKnown (cond b n 0) (looks_so test ls g) (pods_in (wants_of g))
+    known_by n true is still known =
+        known_any (looks_so test ls g) n (pods_in (wants_of g)) (still (known.whole (grind (arith, nat_tests))))
+    known_by n false is still known = known_none (looks_so test ls g) (pods_in (wants_of g))
 
-  lacks_by : (xs : List Want) → ((w : Want) → Contains xs w → t w ≡ false) → find t xs ≡ None
-  lacks_by [] off = refl
-  lacks_by (x ∷ xs) off =
-      ap (λ (b : Bool). cond b (Some x) (find t xs)) (off x (0, omega arith, refl))
-      ∙ lacks_by xs (λ w has. off w (suc has.0, omega (arith, has.1), has.2))
+    -- what is known of all
+    known_still : (n : ℕ) → (find (looks_so test ls f) (pods_in (wants_of f)) ≡ None → find (looks_so test ls g) (pods_in (wants_of g)) ≡ None) → IsKnown n (looks_so test ls f) (pods_in (wants_of f)) → IsKnown (if_all n) (looks_so test ls g) (pods_in (wants_of g))
+    known_still n still known = known_by n (n == all) refl still known
 
--- none of those that are among them passes a test that agrees
-none_among :
-    (s t : Want → Bool) (xs ys : List Want) → ((w : Want) → s w ≡ t w) →
-    ((w : Want) → Contains ys w → Contains xs w) → find t xs ≡ None → find s ys ≡ None
-none_among s t xs ys same within lacks =
-    lacks_by s ys (λ w has. let here = within w has in same w ∙ off_at t xs w here.0 here.1 here.2 lacks)
+    -- where no pod is new
+    none_still : NoneNew (pods_in (wants_of g)) (pods_in (wants_of f)) → find (looks_so test ls f) (pods_in (wants_of f)) ≡ None → find (looks_so test ls g) (pods_in (wants_of g)) ≡ None
+    none_still none lacks =
+        lacks_by (looks_so test ls g) (pods_in (wants_of g)) (λ a here. off_before a (none a here) lacks)
 
--- ---- names by places
+  -- ---- where one pod at the most is new, and this is one that was not looked at, while each of those before was
 
-abbrev name_at : Sels → List (Path × Text) → Option Text
-name_at p qs = option_map (λ (q : Path × Text). q.1) (find (λ (q : Path × Text). sels_eq q.0.sels p) qs)
+  module _ (one : OneNew (pods_in (wants_of g)) (pods_in (wants_of f))) (looked : find (unread ls f) (pods_in (wants_of f)) ≡ None) (name : Text) (fresh : IsUnread ls g name) where
+    looks_fresh : (test : Option Look → Bool) → looks_so test ls g fresh.pod ≡ test None
+    looks_fresh test = ap (by_name test ls) fresh.named ∙ ap test fresh.unread
 
-placed_by :
-    (p : Sels) (n : Node) (ns : List Node) (b : Bool) →
-    option_map (λ (n : Node). n.name) (find (λ (n : Node). sels_eq n.path.sels p) ns) ≡ name_at p (map place_in ns) →
-    option_map (λ (n : Node). n.name) (cond b (Some n) (find (λ (n : Node). sels_eq n.path.sels p) ns))
-    ≡ option_map (λ (q : Path × Text). q.1) (cond b (Some (place_in n)) (find (λ (q : Path × Text). sels_eq q.0.sels p) (map place_in ns)))
-placed_by p n ns true rest = refl
-placed_by p n ns false rest = rest
+    -- it was not asked for before
+    is_new : (a : Want) → unread ls g a ≡ true → Among a (pods_in (wants_of f)) → ⊥
+    is_new a un old = true≢false (sym un ∙ off_before is_none a old looked)
 
-placed : (p : Sels) (ns : List Node) → option_map (λ (n : Node). n.name) (find (λ (n : Node). sels_eq n.path.sels p) ns) ≡ name_at p (map place_in ns)
-placed p [] = refl
-placed p (n ∷ ns) = placed_by p n ns (sels_eq n.path.sels p) (placed p ns)
+    only_unread : IsOnlyUnread ls g name
+    only_unread = record {
+      one = fresh;
+      no_other = λ a here un.
+          ap (pod_name g) (sym (one fresh.pod a fresh.asked here (is_new fresh.pod (looks_fresh is_none)) (is_new a un)))
+          ∙ fresh.named;
+    }
 
--- ---- what marks say of all pods
+    module _ (test : Option Look → Bool) (off : test None ≡ false) (lacks : find (looks_so test ls f) (pods_in (wants_of f)) ≡ None) where
+      off_now : (a : Want) → Among a (pods_in (wants_of g)) → (b : Bool) → looks_so test ls g a ≡ b → b ≡ false
+      off_now a here false is = refl
+      off_now a here true is =
+          let newer : Among a (pods_in (wants_of f)) → ⊥ = λ old. true≢false (sym is ∙ off_before test a old lacks) in
+          let same : fresh.pod ≡ a = one fresh.pod a fresh.asked here (is_new fresh.pod (looks_fresh is_none)) newer in
+          sym is ∙ ap (looks_so test ls g) (sym same) ∙ looks_fresh test ∙ off
 
-abbrev pub LinesAskNoMore : Flow → Flow → Type 0
-LinesAskNoMore g f = AsksNoMore (lines g.manifest (answers g.journal)) (lines f.manifest (answers f.journal))
+      one_still : find (looks_so test ls g) (pods_in (wants_of g)) ≡ None
+      one_still =
+          lacks_by (looks_so test ls g) (pods_in (wants_of g)) (λ a here. off_now a here (looks_so test ls g a) refl)
 
-module _ (ls : List Look) (f g : Flow) (asks : LinesAskNoMore g f) where
-  same_node : (p : Sels) → node_name g p ≡ node_name f p
-  same_node p = placed p (tree_of g) ∙ ap (name_at p) asks.places ∙ sym (placed p (tree_of f))
+-- ---- the marks
 
-  same_name : (a : Want) → pod_name g a ≡ pod_name f a
-  same_name (want.Pod p) = same_node p.sels
-  same_name (want.Lock p l) = refl
-  same_name (want.LookUp p cache entry age) = refl
-  same_name (want.Arming p) = refl
-  same_name (want.Timer p tick) = refl
-  same_name (want.Save p cache entry o) = refl
+abbrev settles : Option Look → Bool
+settles o = has_ended (found_in o)
 
-  module _ (test : Option Look → Bool) (n : ℕ) (known : IsKnown n (looks_so test ls f) (pods_in (wants_of f))) where
-    lasts_by : (b : Bool) → (n == all) ≡ b → IsKnown (cond b n 0) (looks_so test ls g) (pods_in (wants_of g))
-    lasts_by true is =
-        known_any (looks_so test ls g) n (pods_in (wants_of g))
-        (none_among (looks_so test ls g) (looks_so test ls f) (pods_in (wants_of f)) (pods_in (wants_of g)) (λ a. ap (by_name test ls) (same_name a)) asks.pods (known.whole (grind (arith, nat_tests))))
-    lasts_by false is = known_none (looks_so test ls g) (pods_in (wants_of g))
+module _ (ls : List Look) (f g : Flow) where
+  read_still : GoesOnBy NoneNew f g → (k : Read) → IsReadMark ls f k → IsReadMark ls g (read_of_all k)
+  read_still goes (First n) known = known_still ls f g goes.names is_none n (none_still ls f g goes.names is_none goes.pods) known
+  read_still goes (AllBut name) only = known_none (unread ls g) (pods_in (wants_of g))
 
-    lasts : IsKnown (if_all n) (looks_so test ls g) (pods_in (wants_of g))
-    lasts = lasts_by (n == all) refl
-
-  marked_last : (k : Marks) → IsMarked ls f k → IsMarked ls g (of_all k)
-  marked_last k marked = record {
-    read = lasts is_none k.read marked.read;
-    settled = lasts (λ o. has_ended (found_in o)) k.settled marked.settled;
-    created = lasts notes_absent k.created marked.created;
+  -- what they say of all pods, where none is new
+  pub still_marked : GoesOnBy NoneNew f g → (k : Marks) → IsMarked ls f k → IsMarked ls g (of_all k)
+  still_marked goes k marked = record {
+    read = read_still goes k.read marked.read;
+    settled = known_still ls f g goes.names settles k.settled (none_still ls f g goes.names settles goes.pods) marked.settled;
+    created = known_still ls f g goes.names notes_absent k.created (none_still ls f g goes.names notes_absent goes.pods) marked.created;
   }
+
+  -- and where one was not looked at, of those after one at the most is new
+  pub marked_but : (name : Text) → GoesOnBy OneNew f g → (k : Marks) → IsMarked ls f k → k.read ≡ First all → IsUnread ls g name → IsMarked ls g (record { read = AllBut name; settled = if_all k.settled; created = if_all k.created })
+  marked_but name goes k marked is fresh =
+      let known : IsKnown all (unread ls f) (pods_in (wants_of f)) = subst (IsReadMark ls f) is marked.read in
+      let looked = known.whole refl in
+      record {
+        read = only_unread ls f g goes.names goes.pods looked name fresh;
+        settled = known_still ls f g goes.names settles k.settled (one_still ls f g goes.names goes.pods looked name fresh settles refl) marked.settled;
+        created = known_still ls f g goes.names notes_absent k.created (one_still ls f g goes.names goes.pods looked name fresh notes_absent refl) marked.created;
+      }
 
 -- ---- a journal that has one fact more
 
@@ -116,15 +128,17 @@ one_more J K before more x last grows long =
     let long_last : length K ≡ length before + 1 = ap length last ∙ length-append before (x ∷ []) in
     same_front before J (x ∷ []) more (sym last ∙ grows) (omega (arith, long, long_last))
 
-module _ (f g : Flow) (has : HasMore f g) (one : length g.journal ≡ length f.journal + 1) (state : Workflow) (is : state ≡ record { manifest = g.manifest; facts = g.journal }) (quiet : AddsNoPod state) where
-  adds : AddsNoPod (record { manifest = g.manifest; facts = g.journal })
-  adds = subst AddsNoPod is quiet
+module _ (Stand : List Want → List Want → Type 0) (f g : Flow) where
+  abbrev Names : Manifest → Facts → Type 0
+  Names m J =
+      (p : Path) → Among (want.Pod p) (pods m J) → name_at (tree g.manifest g.journal) p.sels ≡ name_at (tree m J) p.sels
 
-  asks_no_more : LinesAskNoMore g f
-  asks_no_more =
-      subst (λ (J : Facts). AsksNoMore (lines g.manifest (answers g.journal)) (lines f.manifest (answers J)))
-      (one_more f.journal g.journal adds.before has.more adds.fact adds.last has.journal one)
-      (subst (λ m. AsksNoMore (lines g.manifest (answers g.journal)) (lines m (answers adds.before))) has.manifest adds.no_more)
-
-  pub still_marked : (k : Marks) (ls : List Look) → IsMarked ls f k → IsMarked ls g (of_all k)
-  still_marked k ls marked = marked_last ls f g asks_no_more k marked
+  pub goes_on_by : HasMore f g → length g.journal ≡ length f.journal + 1 → (state : Workflow) → state ≡ record { manifest = g.manifest; facts = g.journal } → LastAdds Stand state → GoesOnBy Stand f g
+  goes_on_by has one state is told =
+      let adds = subst (LastAdds Stand) is told in
+      let same : adds.before ≡ f.journal = one_more f.journal g.journal adds.before has.more adds.fact adds.last has.journal one in
+      record {
+        names = subst (λ m. Names m f.journal) has.manifest (subst (Names g.manifest) same adds.names);
+        pods = subst (λ m. Stand (pods g.manifest g.journal) (pods m f.journal)) has.manifest
+            (subst (λ J. Stand (pods g.manifest g.journal) (pods g.manifest J)) same adds.pods);
+      }

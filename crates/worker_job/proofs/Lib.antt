@@ -5,5 +5,7 @@ mod Looking
 mod Walks
 mod Changed
 mod OtherKinds
+mod Passing
+mod Running
 mod Marked
 mod Lasting

@@ -1,5 +1,5 @@
 -- The last look at a name, as the views have it.
-use Rattle.std.proofs.Common.{◌≡◌, ℕ, Bool, true, false, cond, List, [], ◌∷◌, map, refl, ◌∙◌, ap, Bor}
+use Rattle.std.proofs.Common.{◌≡◌, ℕ, Bool, true, false, cond, List, [], ◌∷◌, map, refl, sym, ◌∙◌, ap, Bor}
 use Rattle.std.specs.Prelude.{bytes_eq, Option, Some, None, option_map, option_copied}
 use Rattle.std.specs.List.{find}
 use Rattle.looks.specs.declared.Look.{Look}
@@ -22,6 +22,11 @@ pub look_mapped :
 look_mapped name [] = refl
 look_mapped name (l ∷ ls) =
     told_by (bytes_eq l.name name) l (find (is_named name) ls) (find (is_look name) (map look_told ls)) (look_mapped name ls)
+
+pub unlooked :
+    (name : List ℕ) (ls : List (Look SeenPod)) → None ≡ find (is_named name) ls →
+    find (is_look name) (map look_told ls) ≡ None
+unlooked name ls found = sym (look_mapped name ls) ∙ ap (option_map look_told) (sym found)
 
 told_lent : (r : Option (Bor (Look SeenPod))) → option_map (λ l. look_told l.now) r ≡ option_map look_told (option_copied r)
 told_lent None = refl

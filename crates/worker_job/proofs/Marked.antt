@@ -1,6 +1,6 @@
 -- Marks: what they say of the first pod that gives something, and what is left of them once a pod was looked at.
 use Rattle.std.proofs.Common.{◌≡◌, ℕ, zero, suc, ◌<◌, ◌≤◌, arith, Bool, true, false, true≢false, cond, ◌&&◌, List, [], ◌∷◌, map, take, refl, sym, ap, ap₂, ◌∙◌, Bor, Option, Some, None, option_map, option_and_then, option_copied}
-use Rattle.std.specs.Prelude.{is_some, is_none, if◌then◌else◌}
+use Rattle.std.specs.Prelude.{is_some, is_none, if◌then◌else◌, bytes_eq}
 use Rattle.std.specs.List.{find}
 use Rattle.tree_types.specs.declared.path.Path.{Path}
 use Rattle.tree_types.specs.declared.fact.Fact.TheVariants as fact
@@ -9,6 +9,7 @@ use Rattle.tree_types.specs.declared.want.Want.TheVariants as want
 use Rattle.meaning.specs.Trees.{wants}
 use Rattle.tree_state.specs.declared.kinds.WantKind.TheVariants as kind
 use Rattle.tree_state.specs.Asking.{is_of}
+use Rattle.growth.specs.Growth.{Among}
 use Rattle.tree_state.specs.Finding.{pods_in}
 use Rattle.tree_eval.specs.Pods.{NoneAmong}
 use Rattle.tree_incr.specs.Workflows.{Workflow}
@@ -20,11 +21,17 @@ use Rattle.next_step.specs.Views.{Seen, Look, first_given, is_look, found_in, lo
 use Rattle.worker_job.specs.declared.reading.Reading.{Reading}
 use Rattle.worker_job.specs.declared.job.SeenPod.{SeenPod}
 use Rattle.worker_job.specs.declared.marks.Marks.{Marks}
+use Rattle.worker_job.specs.declared.marks.Read.{Read}
+use Rattle.worker_job.specs.declared.marks.Read.TheVariants.{First, AllBut}
 use Rattle.next_step.specs.Next as next
+use Rattle.next_step.specs.Next.{get}
+use Rattle.tree_types.specs.declared.entry.Key.TheVariants as of_key
 use Rattle.worker_job.specs.Readings as reads
 use Rattle.worker_job.specs.Inside.{pod_told}
-use Rattle.worker_job.specs.Inside.Marks.{pod_name, by_name, looks_so, has_ended, notes_absent, unread, ended, absent, all, IsKnown, IsMarked, MarksFit, none, seen_ended, after}
+use Rattle.worker_job.specs.Inside.Marks.{pod_name, by_name, looks_so, has_ended, notes_absent, unread, ended, absent, all, IsKnown, IsOnlyUnread, IsReadMark, IsMarked, MarksFit, none, seen_ended, read_after, settled_after, created_after, after}
 use Rattle.worker_job.proofs.Asked.{OnlyOf, found_same, asked_found}
+use Rattle.worker_job.proofs.Passing.{lacks_by, finds}
+use Rattle.worker_job.proofs.Wanted.{reading_only}
 use Rattle.looks.specs.declared.Look.{Look as Looked}
 use Rattle.looks.specs.Named.{is_named}
 use Rattle.worker_job.specs.Inside.{look_told}
@@ -162,6 +169,28 @@ module _ (r : Reading) where
   reads_unread (want.Timer p tick) = refl
   reads_unread (want.Save p cache entry o) = refl
 
+  named_read : (name : Text) (a : Want) → pod_name flow a ≡ Some name → unread looks flow a ≡ true → reads.reading r a ≡ Some (get (of_key.Pod (reads.workflow r) name))
+  named_read name (want.Pod p) named un = read_by (find (is_look name) looks) refl
+    where
+      read_by : (o : Option Look) → find (is_look name) looks ≡ o → reads.reading r (want.Pod p) ≡ Some (get (of_key.Pod (reads.workflow r) name))
+      read_by None is =
+          ap (option_and_then (λ name. next.unless_looked (reads.law r) (reads.workflow r) (reads.views r) (reads.flow r) name (look_at r.job.now.views name))) named
+          ∙ ap (next.unless_looked (reads.law r) (reads.workflow r) (reads.views r) (reads.flow r) name) is
+      read_by (Some l) is =
+          absurd (true≢false (sym un ∙ ap (by_name is_none looks) named ∙ ap is_none is))
+  named_read name (want.Lock p l) named un = absurd (cc)
+  named_read name (want.LookUp p cache entry age) named un = absurd (cc)
+  named_read name (want.Arming p) named un = absurd (cc)
+  named_read name (want.Timer p tick) named un = absurd (cc)
+  named_read name (want.Save p cache entry o) named un = absurd (cc)
+
+  -- the pod that alone was not looked at is read
+  pub reads_only : (name : Text) → IsOnlyUnread looks flow name → Some (get (of_key.Pod (reads.workflow r) name)) ≡ reads.asked r (reads.reading r)
+  reads_only name only =
+      let first = finds (unread looks flow) (pods_in (wants_of flow)) only.one.pod only.one.asked (ap (by_name is_none looks) only.one.named ∙ ap is_none only.one.unread) in
+      sym (named_read name first.one (only.no_other first.one first.among first.passes) first.passes)
+      ∙ podded (reads.reading r) (unread looks flow) (wants_of flow) (Some first.one) (reading_only r) reads_unread (sym first.found)
+
   settling_seen : (p : Path) (o : Option (Seen PodObject)) → is_some (option_map (λ o. record_fact (fact.Settled p o)) (option_and_then (λ (pod : PodObject). pod.outcome) (option_map (λ (x : Seen PodObject). x.content) o))) ≡ has_ended o
   settling_seen p None = refl
   settling_seen p (Some x) = by x.content.outcome
@@ -221,30 +250,56 @@ module _ (test : Option Look → Bool) (l : Look) (ls : List Look) (off : test (
 abbrev pub look_with : List ℕ → Option SeenPod → Look
 look_with name found = record { name = name; found = option_map pod_told found }
 
-module _ (ls : List Look) (f : Flow) (k : Marks) (marked : IsMarked ls f k) (name : List ℕ) where
-  after_pod : (s : SeenPod) (b : Bool) → seen_ended s ≡ b → IsMarked (look_with name (Some s) ∷ ls) f (cond b (record k { settled = 0 }) k)
-  after_pod s true is = record {
-    read = still is_none (look_with name (Some s)) ls refl f k.read marked.read;
-    settled = known_none (ended (look_with name (Some s) ∷ ls) f) (pods_in (wants_of f));
-    created = still notes_absent (look_with name (Some s)) ls refl f k.created marked.created;
-  }
-  after_pod s false is = record {
-    read = still is_none (look_with name (Some s)) ls refl f k.read marked.read;
-    settled = still (λ o. has_ended (found_in o)) (look_with name (Some s)) ls is f k.settled marked.settled;
-    created = still notes_absent (look_with name (Some s)) ls refl f k.created marked.created;
+module _ (ls : List Look) (f : Flow) (name : List ℕ) where
+  -- the name that was not looked at is this one, or another
+  only_after : (found : Option SeenPod) (x : Text) (b : Bool) → bytes_eq name x ≡ b → IsOnlyUnread ls f x → IsReadMark (look_with name found ∷ ls) f (cond b (First all) (AllBut x))
+  only_after found x true same only =
+      let now = look_with name found ∷ ls in
+      known_any (unread now f) all (pods_in (wants_of f))
+      (lacks_by (unread now f) (pods_in (wants_of f)) (λ a here. read_by a here (unread now f a) refl))
+    where
+      now_read : (a : Want) → pod_name f a ≡ Some x → unread (look_with name found ∷ ls) f a ≡ false
+      now_read a named =
+          ap (by_name is_none (look_with name found ∷ ls)) named
+          ∙ ap (λ (b : Bool). is_none (cond b (Some (look_with name found)) (find (is_look x) ls))) same
+
+      read_by : (a : Want) → Among a (pods_in (wants_of f)) → (b : Bool) → unread (look_with name found ∷ ls) f a ≡ b → b ≡ false
+      read_by a here false is = refl
+      read_by a here true is =
+          sym is ∙ now_read a (only.no_other a here (named_more is_none (look_with name found) ls refl (pod_name f a) is))
+  only_after found x false other only = record {
+    one = record {
+      pod = only.one.pod;
+      asked = only.one.asked;
+      named = only.one.named;
+      unread = ap (λ (b : Bool). cond b (Some (look_with name found)) (find (is_look x) ls)) other ∙ only.one.unread;
+    };
+    no_other = λ a here un. only.no_other a here (named_more is_none (look_with name found) ls refl (pod_name f a) un);
   }
 
-  after_look : (found : Option SeenPod) → IsMarked (look_with name found ∷ ls) f (after k found)
-  after_look None = record {
-    read = still is_none (look_with name None) ls refl f k.read marked.read;
-    settled = still (λ o. has_ended (found_in o)) (look_with name None) ls refl f k.settled marked.settled;
-    created = known_none (absent (look_with name None ∷ ls) f) (pods_in (wants_of f));
-  }
-  after_look (Some s) = after_pod s (seen_ended s) refl
+  read_mark_after : (found : Option SeenPod) (k : Read) → IsReadMark ls f k → IsReadMark (look_with name found ∷ ls) f (read_after name k)
+  read_mark_after found (First n) known = still is_none (look_with name found) ls refl f n known
+  read_mark_after found (AllBut x) only = only_after found x (bytes_eq name x) refl only
 
-pub marks_after : (ls : List Look) (o : Option Flow) (k : Marks) (name : List ℕ) (found : Option SeenPod) → MarksFit ls o k → MarksFit (look_with name found ∷ ls) o (after k found)
-marks_after ls None k name found fit = tt
-marks_after ls (Some f) k name found fit = after_look ls f k fit name found
+  settled_by : (s : SeenPod) (n : ℕ) (b : Bool) → seen_ended s ≡ b → IsKnown n (ended ls f) (pods_in (wants_of f)) → IsKnown (cond b 0 n) (ended (look_with name (Some s) ∷ ls) f) (pods_in (wants_of f))
+  settled_by s n true is known = known_none (ended (look_with name (Some s) ∷ ls) f) (pods_in (wants_of f))
+  settled_by s n false is known = still (λ o. has_ended (found_in o)) (look_with name (Some s)) ls is f n known
+
+  settled_mark_after : (found : Option SeenPod) (n : ℕ) → IsKnown n (ended ls f) (pods_in (wants_of f)) → IsKnown (settled_after found n) (ended (look_with name found ∷ ls) f) (pods_in (wants_of f))
+  settled_mark_after None n known = still (λ o. has_ended (found_in o)) (look_with name None) ls refl f n known
+  settled_mark_after (Some s) n known = settled_by s n (seen_ended s) refl known
+
+  created_mark_after : (found : Option SeenPod) (n : ℕ) → IsKnown n (absent ls f) (pods_in (wants_of f)) → IsKnown (created_after found n) (absent (look_with name found ∷ ls) f) (pods_in (wants_of f))
+  created_mark_after None n known = known_none (absent (look_with name None ∷ ls) f) (pods_in (wants_of f))
+  created_mark_after (Some s) n known = still notes_absent (look_with name (Some s)) ls refl f n known
+
+pub marks_after : (ls : List Look) (o : Option Flow) (name : List ℕ) (found : Option SeenPod) (k : Marks) → MarksFit ls o k → MarksFit (look_with name found ∷ ls) o (after name found k)
+marks_after ls None name found k fit = tt
+marks_after ls (Some f) name found k fit = record {
+  read = read_mark_after ls f name found k.read fit.read;
+  settled = settled_mark_after ls f name found k.settled fit.settled;
+  created = created_mark_after ls f name found k.created fit.created;
+}
 
 -- no marks are always right
 pub marked_none : (ls : List Look) (f : Flow) → IsMarked ls f none

@@ -25,7 +25,7 @@ use std::alloc::Global;
 use std::marker::Model;
 use std::mem;
 use sync_locks::LockBook;
-use tree_types::Key;
+use tree_types::{Fact, Key};
 use wf_bundle::Document;
 use wf_object::{PodObject, WfContent, WfObject};
 
@@ -119,7 +119,7 @@ impl Job {
                     object,
                     version: snapshot.version,
                     tick: snapshot.tick,
-                    marks: self.marks,
+                    marks: &self.marks,
                 };
                 reading.next()
             }
@@ -256,7 +256,7 @@ impl Job {
         ensures workflow { self.new.workflow ≡ self.old.workflow }
     {
         match matter {
-            Matter::RecordFact(_) => Ok(self.go_on(snapshot)),
+            Matter::RecordFact(fact) => self.go_on(fact, snapshot),
             Matter::Submit(resubmission) => {
                 self.note_try(&resubmission.name)?;
                 Ok(true)
@@ -302,33 +302,37 @@ impl Job {
     }
 
     // A fact was recorded, and the workflow is this one now.
-    fn go_on(&mut self, snapshot: Snapshot<WfContent>) -> bool
+    fn go_on(&mut self, fact: &Fact, snapshot: Snapshot<WfContent>) -> Result<bool, Memory>
         requires key { snapshot.key ≡ of_key.Workflow self.old.workflow }
         requires goes_on { GoesOn self.old.views snapshot.content }
-        ensures after { Leaves result
+        ensures after { IfOk result (λ on. Leaves on
             (taken self.old.views snapshot.key snapshot.version snapshot.tick snapshot.content)
-            self.new.views }
+            self.new.views) }
         ensures workflow { self.new.workflow ≡ self.old.workflow }
     {
         let Some(object) = snapshot.content.workflow() else {
-            return false;
+            return Ok(false);
         };
-        let marks = self.marks_at(object);
+        let marks = self.marks_at(fact, object)?;
         self.set_flow(snapshot, marks);
-        true
+        Ok(true)
     }
 
-    // The marks, where the workflow becomes this one.
-    fn marks_at(&self, object: &WfObject) -> Marks
+    // The marks, where the workflow becomes this one by a fact.
+    fn marks_at(&self, fact: &Fact, object: &WfObject) -> Result<Marks, Memory>
         requires { (s : Seen Flow) → self.now.views.flow ≡ Some s → HasMore s.content object.now }
-        ensures { IsMarked self.now.views.pods object.now result }
+        ensures { IfOk result (IsMarked self.now.views.pods object.now) }
     {
         let Some(flow) = &self.flow else {
-            return Marks::none();
+            return Ok(Marks::none());
+        };
+        let pods = Pods {
+            looks: &self.looks,
+            object,
         };
         match flow.content.workflow() {
-            None => Marks::none(),
-            Some(before) => self.marks.behind(before, object),
+            None => Ok(Marks::none()),
+            Some(before) => self.marks.behind(fact, before, &pods),
         }
     }
 
@@ -423,7 +427,7 @@ impl Job {
             (self.new.views ≡ with_look self.old.views name (option_map pod_told found)) }
         ensures workflow { self.new.workflow ≡ self.old.workflow }
     {
-        let marks = mem::replace(&mut self.marks, Marks::none()).after(&found);
+        let marks = mem::replace(&mut self.marks, Marks::none()).after(&name, &found);
         self.looks.add(name, found)?;
         self.marks = marks_behind(&self.flow, &self.looks, marks);
         Ok(())

@@ -1,6 +1,7 @@
 //! A worker's job on one workflow: what it has read and noted, what it does next by that, and what an answer makes of it.
 #![tactic(auto)]
 
+mod fresh;
 mod job;
 mod marks;
 mod matter;

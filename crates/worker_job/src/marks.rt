@@ -1,30 +1,79 @@
 //! Which pods that are asked for are known to give nothing to a step, so that a step looks only behind them.
 
-ghost use Rattle.std.specs.Prelude.{◌≡◌, List, map, IfSome, option_copied, option_map};
+ghost use Rattle.std.specs.Prelude.{◌≡◌, List, map, IfOk, IfSome, IsTrue, option_copied, option_map};
 ghost use Rattle.std.specs.List.{find};
+ghost use Rattle.pod_laws.specs.NewPods.{OneNew};
 ghost use Rattle.tree_eval.specs.Pods.{NoneAmong};
 ghost use Rattle.tree_state.specs.Finding.{pods_in};
 ghost use Rattle.law.specs.Justified.{wants_of};
-ghost use Rattle.next_step.specs.Views.{Look as Looked};
+ghost use Rattle.worker_job.specs.declared.marks.Read.TheVariants.{First};
 ghost use Rattle.worker_job.specs.Inside.{look_told};
 ghost use Rattle.worker_job.specs.Inside.Marks as marked;
 ghost use Rattle.worker_job.specs.Jobs.{HasMore};
 
+use crate::fresh::fresh_name;
 use crate::job::SeenPod;
-use base_types::Text;
+use base_types::{Memory, Text, TryCopy};
 use looks::Looks;
-use tree_incr::WantTest;
-use tree_types::Want;
+use tree_incr::{NewPods, WantTest};
+use tree_types::{Fact, Want};
 use wf_object::WfObject;
 
 // The count that stands for all pods, however many they are.
 const ALL: usize = usize::MAX;
 
-// How many pods, from the first in tree order, give nothing to the step that reads them, to the one that settles them, and to
-// the one that creates them.
-#[derive(Clone, Copy, Debug)]
+// Which pods give nothing to the step that reads them, since they were looked at.
+#[derive(Drop)]
+pub(crate) enum Read {
+    // So many from the first in tree order.
+    First(usize),
+    // All but the one of this name, which is asked for and was not looked at.
+    AllBut(Text),
+}
+
+impl Read {
+    // What is left of it once the pod of a name was looked at.
+    fn after(self, name: &Text) -> Read
+        ensures { result ≡ marked.read_after name.now self }
+    {
+        match self {
+            Read::First(known) => Read::First(known),
+            Read::AllBut(fresh) => {
+                if *name == fresh {
+                    Read::First(ALL)
+                } else {
+                    Read::AllBut(fresh)
+                }
+            }
+        }
+    }
+
+    // What it says of all pods.
+    fn of_all(&self) -> Read
+        ensures { result ≡ marked.read_of_all self.now }
+    {
+        match self {
+            Read::First(known) => Read::First(if_all(*known)),
+            Read::AllBut(_) => Read::First(0),
+        }
+    }
+
+    // Whether each pod was looked at.
+    fn is_all(&self) -> bool
+        ensures { IsTrue result → self.now ≡ First marked.all }
+    {
+        match self {
+            Read::First(known) => *known == ALL,
+            Read::AllBut(_) => false,
+        }
+    }
+}
+
+// Which pods give nothing to the step that reads them; and how many, from the first in tree order, to the one that settles them,
+// and to the one that creates them.
+#[derive(Drop)]
 pub(crate) struct Marks {
-    pub(crate) read: usize,
+    pub(crate) read: Read,
     pub(crate) settled: usize,
     pub(crate) created: usize,
 }
@@ -34,50 +83,98 @@ impl Marks {
         ensures { result ≡ marked.none }
     {
         Marks {
-            read: 0,
+            read: Read::First(0),
             settled: 0,
             created: 0,
         }
     }
 
-    // What is left of them once a pod was looked at: one that ended may be settled, and one that is absent created.
-    pub(crate) fn after(self, found: &Option<SeenPod>) -> Marks
-        ensures { result ≡ marked.after self found.now }
+    // What is left of them once the pod of a name was looked at: one that ended may be settled, and one that is absent created.
+    pub(crate) fn after(self, name: &Text, found: &Option<SeenPod>) -> Marks
+        ensures { result ≡ marked.after name.now found.now self }
     {
+        let Marks {
+            read,
+            settled,
+            created,
+        } = self;
+        let read = read.after(name);
         match found {
-            None => Marks { created: 0, ..self },
+            None => Marks {
+                read,
+                settled,
+                created: 0,
+            },
             Some(seen) => {
-                if seen.pod.outcome().is_some() {
-                    Marks { settled: 0, ..self }
+                let settled = if seen.pod.outcome().is_some() {
+                    0
                 } else {
-                    self
+                    settled
+                };
+                Marks {
+                    read,
+                    settled,
+                    created,
                 }
             }
         }
     }
 
-    // What is left of them once the workflow has more facts. A fact that asks for no new pod gives nothing to a step that got
-    // nothing of all pods; of those from the first nothing is known any more, since others may be left. What the object tells is
-    // of its last fact alone.
-    pub(crate) fn behind(self, before: &WfObject, object: &WfObject) -> Marks
-        requires { HasMore before.now object.now }
-        ensures { (ls : List Looked) → marked.IsMarked ls before.now self → marked.IsMarked ls object.now result }
+    // What is left of them once the workflow has one fact more. Of those from the first nothing is known any more, since others
+    // may be left. Of all pods each still gives nothing to a step if no pod is new; and if the one that is new is known, all but
+    // that one. What the object tells is of its last fact alone.
+    pub(crate) fn behind(
+        &self,
+        fact: &Fact,
+        before: &WfObject,
+        pods: &Pods<'_>,
+    ) -> Result<Marks, Memory>
+        requires more { HasMore before.now pods.now.object.now }
+        requires marked { marked.IsMarked (map look_told pods.now.looks.now) before.now self.now }
+        ensures { IfOk result (marked.IsMarked (map look_told pods.now.looks.now) pods.now.object.now) }
     {
-        let more = object.journal().len() - before.journal().len();
-        if more == 1 && object.state().adds_no_pod() {
-            self.of_all()
-        } else {
-            Marks::none()
+        let more = pods.object.journal().len() - before.journal().len();
+        if more != 1 {
+            return Ok(Marks::none());
+        }
+        match pods.object.state().new_pods() {
+            NewPods::None => Ok(self.of_all()),
+            NewPods::OneAtMost => self.all_but_fresh(fact, before, pods),
+            NewPods::Unknown => Ok(Marks::none()),
         }
     }
 
-    fn of_all(self) -> Marks
-        ensures { result ≡ marked.of_all self }
+    fn of_all(&self) -> Marks
+        ensures { result ≡ marked.of_all self.now }
     {
         Marks {
-            read: if_all(self.read),
+            read: self.read.of_all(),
             settled: if_all(self.settled),
             created: if_all(self.created),
+        }
+    }
+
+    // The same, where one pod at the most is new. One that was not looked at gives nothing to the steps that settle and create.
+    fn all_but_fresh(
+        &self,
+        fact: &Fact,
+        before: &WfObject,
+        pods: &Pods<'_>,
+    ) -> Result<Marks, Memory>
+        requires one { marked.GoesOnBy OneNew before.now pods.now.object.now }
+        requires marked { marked.IsMarked (map look_told pods.now.looks.now) before.now self.now }
+        ensures { IfOk result (marked.IsMarked (map look_told pods.now.looks.now) pods.now.object.now) }
+    {
+        if !self.read.is_all() {
+            return Ok(Marks::none());
+        }
+        match fresh_name(fact, pods)? {
+            None => Ok(Marks::none()),
+            Some(name) => Ok(Marks {
+                read: Read::AllBut(name.copy()?),
+                settled: if_all(self.settled),
+                created: if_all(self.created),
+            }),
         }
     }
 }
@@ -207,23 +304,38 @@ impl<'a> Pods<'a> {
         requires { marked.IsMarked (map look_told self.now.looks.now) self.now.object.now marks }
         ensures { marked.IsMarked (map look_told self.now.looks.now) self.now.object.now result }
     {
-        let read = self.first(Sought::Unread, marks.read);
-        if read < ALL {
-            return Marks { read, ..marks };
-        }
-        let settled = self.first(Sought::Ended, marks.settled);
-        if settled < ALL {
-            return Marks {
-                read,
-                settled,
-                ..marks
-            };
-        }
-        let created = self.first(Sought::Absent, marks.created);
-        Marks {
+        let Marks {
             read,
             settled,
             created,
+        } = marks;
+        let Read::First(known) = read else {
+            return Marks {
+                read,
+                settled,
+                created,
+            };
+        };
+        let read = self.first(Sought::Unread, known);
+        if read < ALL {
+            return Marks {
+                read: Read::First(read),
+                settled,
+                created,
+            };
+        }
+        let settled = self.first(Sought::Ended, settled);
+        if settled < ALL {
+            return Marks {
+                read: Read::First(read),
+                settled,
+                created,
+            };
+        }
+        Marks {
+            read: Read::First(read),
+            settled,
+            created: self.first(Sought::Absent, created),
         }
     }
 }

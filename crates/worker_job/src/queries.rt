@@ -12,7 +12,7 @@ ghost use Rattle.next_step.specs.Next.{get};
 ghost use Rattle.worker_job.specs.Inside.Marks.{IsMarked};
 ghost use Rattle.worker_job.specs.Readings as reads;
 
-use crate::marks::Sought;
+use crate::marks::{Read, Sought};
 use crate::reading::Reading;
 use base_types::Text;
 use memo_cache::Cache;
@@ -107,19 +107,22 @@ impl<'a> NodeTest for Kept<'a> {
 impl<'a> Reading<'a> {
     // The name of the first pod that was not looked at.
     pub(crate) fn first_unlooked(&self) -> Option<&Text>
-        requires marked { IsMarked self.now.job.now.views.pods self.now.object.now self.now.marks }
+        requires marked { IsMarked self.now.job.now.views.pods self.now.object.now self.now.marks.now }
         ensures { option_map (λ n. get (of_key.Pod (reads.workflow self.now) n.now)) result
             ≡ reads.asked self.now (reads.reading self.now) }
     {
-        match self.pods().find(Sought::Unread, self.marks.read) {
-            None => None,
-            Some((_, want)) => self.unlooked(want),
+        match &self.marks.read {
+            Read::First(known) => match self.pods().find(Sought::Unread, *known) {
+                None => None,
+                Some((_, want)) => self.unlooked(want),
+            },
+            Read::AllBut(name) => Some(name),
         }
     }
 
     // The first pod that finished, and its outcome.
     pub(crate) fn first_finished(&self) -> Option<(&Path, &Outcome)>
-        requires marked { IsMarked self.now.job.now.views.pods self.now.object.now self.now.marks }
+        requires marked { IsMarked self.now.job.now.views.pods self.now.object.now self.now.marks.now }
         ensures { option_map (λ f. record_fact (fact.Settled f.0.now f.1.now)) result
             ≡ reads.asked self.now (reads.settling self.now) }
     {
@@ -172,7 +175,7 @@ impl<'a> Reading<'a> {
 
     // The first pod that was noted as absent.
     pub(crate) fn first_noted(&self) -> Option<(&Path, &Text)>
-        requires marked { IsMarked self.now.job.now.views.pods self.now.object.now self.now.marks }
+        requires marked { IsMarked self.now.job.now.views.pods self.now.object.now self.now.marks.now }
         ensures { option_map (λ n. create n.0.now n.1.now) result
             ≡ reads.asked self.now (reads.creating self.now) }
     {

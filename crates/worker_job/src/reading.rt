@@ -39,7 +39,7 @@ pub(crate) struct Reading<'a> {
     pub(crate) object: &'a WfObject,
     pub(crate) version: u64,
     pub(crate) tick: u64,
-    pub(crate) marks: Marks,
+    pub(crate) marks: &'a Marks,
 }
 
 // Whether the manifest or one of its templates has a lock.

@@ -36,7 +36,7 @@ fn copied(outputs: Option<&Outputs>) -> Result<Option<Outputs>, Memory>
 impl<'a> Reading<'a> {
     // What a worker does next: the first of the steps that applies.
     pub(crate) fn next(&self) -> Result<Next, Memory>
-        requires marked { IsMarked self.now.job.now.views.pods self.now.object.now self.now.marks }
+        requires marked { IsMarked self.now.job.now.views.pods self.now.object.now self.now.marks.now }
         ensures { IfOk result (λ n. next_told n ≡ next.first_step (reads.steps self.now)) }
     {
         if let Some(next) = self.read_book() {
@@ -53,7 +53,7 @@ impl<'a> Reading<'a> {
 
     // The same, where the steps before do not apply.
     fn next_answer(&self) -> Result<Next, Memory>
-        requires marked { IsMarked self.now.job.now.views.pods self.now.object.now self.now.marks }
+        requires marked { IsMarked self.now.job.now.views.pods self.now.object.now self.now.marks.now }
         ensures { IfOk result (λ n. next_told n ≡ next.first_step (reads.answering_steps self.now)) }
     {
         if let Some(next) = self.settle()? {
@@ -69,7 +69,7 @@ impl<'a> Reading<'a> {
     }
 
     fn next_waiting(&self) -> Result<Next, Memory>
-        requires marked { IsMarked self.now.job.now.views.pods self.now.object.now self.now.marks }
+        requires marked { IsMarked self.now.job.now.views.pods self.now.object.now self.now.marks.now }
         ensures { IfOk result (λ n. next_told n ≡ next.first_step (reads.waiting_steps self.now)) }
     {
         if let Some(next) = self.look_up()? {
@@ -85,7 +85,7 @@ impl<'a> Reading<'a> {
     }
 
     fn next_change(&self) -> Result<Next, Memory>
-        requires marked { IsMarked self.now.job.now.views.pods self.now.object.now self.now.marks }
+        requires marked { IsMarked self.now.job.now.views.pods self.now.object.now self.now.marks.now }
         ensures { IfOk result (λ n. next_told n ≡ next.first_step (reads.changing_steps self.now)) }
     {
         if let Some(next) = self.resume()? {
@@ -125,7 +125,7 @@ impl<'a> Reading<'a> {
     }
 
     fn read_pod(&self) -> Result<Option<Next>, Memory>
-        requires marked { IsMarked self.now.job.now.views.pods self.now.object.now self.now.marks }
+        requires marked { IsMarked self.now.job.now.views.pods self.now.object.now self.now.marks.now }
         ensures { IfOk result (λ step. step_told step ≡ reads.read_pod self.now) }
     {
         match self.first_unlooked() {
@@ -150,7 +150,7 @@ impl<'a> Reading<'a> {
     }
 
     fn settle(&self) -> Result<Option<Next>, Memory>
-        requires marked { IsMarked self.now.job.now.views.pods self.now.object.now self.now.marks }
+        requires marked { IsMarked self.now.job.now.views.pods self.now.object.now self.now.marks.now }
         ensures { IfOk result (λ step. step_told step ≡ reads.settle self.now) }
     {
         match self.first_finished() {
@@ -249,7 +249,7 @@ impl<'a> Reading<'a> {
     // ---- changes of other objects
 
     fn create_one(&self) -> Result<Option<Next>, Memory>
-        requires marked { IsMarked self.now.job.now.views.pods self.now.object.now self.now.marks }
+        requires marked { IsMarked self.now.job.now.views.pods self.now.object.now self.now.marks.now }
         ensures { IfOk result (λ step. step_told step ≡ reads.create_one self.now) }
     {
         match self.first_noted() {

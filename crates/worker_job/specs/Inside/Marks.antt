@@ -1,7 +1,9 @@
--- Pods that are asked for, by the last looks at them, and how many from the first give nothing to a step.
-use Rattle.std.specs.Prelude.{◌≡◌, ℕ, ◌-◌, ◌^◌, ◌==◌, if◌then◌else◌, Bool, false, cond, List, find, Option, Some, None, is_some, is_none, option_and_then}
+-- Pods that are asked for, by the last looks at them, and which of them give nothing to a step.
+use Rattle.std.specs.Prelude.{◌≡◌, ℕ, ◌-◌, ◌^◌, ◌==◌, if◌then◌else◌, Bool, true, false, bytes_eq, List, find, Option, Some, None, is_some, is_none, option_and_then}
+use Rattle.tree_types.specs.declared.path.Path.{Path}
 use Rattle.tree_types.specs.declared.want.Want.{Want}
 use Rattle.tree_types.specs.declared.want.Want.TheVariants as want
+use Rattle.growth.specs.Growth.{Among}
 use Rattle.tree_state.specs.Finding.{pods_in}
 use Rattle.tree_eval.specs.Pods.{NoneAmong}
 use Rattle.law.specs.Documents.{Text}
@@ -11,6 +13,8 @@ use Rattle.law.specs.Justified.{wants_of}
 use Rattle.next_step.specs.Views.{Seen, Look, is_look, found_in}
 use Rattle.worker_job.specs.declared.job.SeenPod.{SeenPod}
 use Rattle.worker_job.specs.declared.marks.Marks.{Marks}
+use Rattle.worker_job.specs.declared.marks.Read.{Read}
+use Rattle.worker_job.specs.declared.marks.Read.TheVariants.{First, AllBut}
 use Rattle.worker_job.specs.declared.marks.Sought.{Sought}
 use Rattle.worker_job.specs.declared.marks.Sought.TheVariants.{Unread, Ended, Absent}
 
@@ -63,9 +67,26 @@ pub record IsKnown (n : ℕ) (accepts : Want → Bool) (ws : List Want) : Type 0
   pub first : NoneAmong n accepts ws
   pub whole : n ≡ all → find accepts ws ≡ None
 
--- so many pods from the first give nothing to the step that reads, that settles, and that creates
+-- a pod that is asked for has this name, and was not looked at
+pub record IsUnread (ls : List Look) (f : Flow) (name : Text) : Type 0 where
+  pub pod : Want
+  pub asked : Among pod (pods_in (wants_of f))
+  pub named : pod_name f pod ≡ Some name
+  pub unread : find (is_look name) ls ≡ None
+
+-- and there is no other
+pub record IsOnlyUnread (ls : List Look) (f : Flow) (name : Text) : Type 0 where
+  pub one : IsUnread ls f name
+  pub no_other : (a : Want) → Among a (pods_in (wants_of f)) → unread ls f a ≡ true → pod_name f a ≡ Some name
+
+-- which pods give nothing to the step that reads
+abbrev pub IsReadMark : List Look → Flow → Read → Type 0
+IsReadMark ls f (First n) = IsKnown n (unread ls f) (pods_in (wants_of f))
+IsReadMark ls f (AllBut name) = IsOnlyUnread ls f name
+
+-- and how many from the first give nothing to the step that settles, and to the one that creates
 pub record IsMarked (ls : List Look) (f : Flow) (k : Marks) : Type 0 where
-  pub read : IsKnown k.read (unread ls f) (pods_in (wants_of f))
+  pub read : IsReadMark ls f k.read
   pub settled : IsKnown k.settled (ended ls f) (pods_in (wants_of f))
   pub created : IsKnown k.created (absent ls f) (pods_in (wants_of f))
 
@@ -75,20 +96,47 @@ MarksFit ls None k = Unit {0}
 MarksFit ls (Some f) k = IsMarked ls f k
 
 abbrev pub none : Marks
-none = record { read = 0; settled = 0; created = 0 }
+none = record { read = First 0; settled = 0; created = 0 }
+
+-- ---- what is left of the marks once the pod of a name was looked at
 
 -- whether a pod that was read had ended
 abbrev pub seen_ended : SeenPod → Bool
 seen_ended s = is_some s.pod.outcome
 
--- what is left of the marks once a pod was looked at
-abbrev pub after : Marks → Option SeenPod → Marks
-after k None = record k { created = 0 }
-after k (Some s) = cond (seen_ended s) (record k { settled = 0 }) k
+abbrev pub read_after : Text → Read → Read
+read_after name (First n) = First n
+read_after name (AllBut x) = if bytes_eq name x then First all else AllBut x
 
--- what is left of them where the workflow asks for no new pod: what they say of all pods
+abbrev pub settled_after : Option SeenPod → ℕ → ℕ
+settled_after None n = n
+settled_after (Some s) n = if seen_ended s then 0 else n
+
+abbrev pub created_after : Option SeenPod → ℕ → ℕ
+created_after None n = 0
+created_after (Some s) n = n
+
+abbrev pub after : Text → Option SeenPod → Marks → Marks
+after name found k = record {
+  read = read_after name k.read;
+  settled = settled_after found k.settled;
+  created = created_after found k.created;
+}
+
+-- ---- what is left of them once the workflow has one fact more
+
+-- the pods that were asked for keep their names, and those that are asked for now are such
+pub record GoesOnBy (Holds : List Want → List Want → Type 0) (f g : Flow) : Type 0 where
+  pub names : (p : Path) → Among (want.Pod p) (pods_in (wants_of f)) → node_name g p.sels ≡ node_name f p.sels
+  pub pods : Holds (pods_in (wants_of g)) (pods_in (wants_of f))
+
+-- what they say of all pods
 abbrev pub if_all : ℕ → ℕ
 if_all n = if n == all then n else 0
 
+abbrev pub read_of_all : Read → Read
+read_of_all (First n) = First (if_all n)
+read_of_all (AllBut name) = First 0
+
 abbrev pub of_all : Marks → Marks
-of_all k = record { read = if_all k.read; settled = if_all k.settled; created = if_all k.created }
+of_all k = record { read = read_of_all k.read; settled = if_all k.settled; created = if_all k.created }

@@ -1,27 +1,30 @@
 -- What a walk that is made again gives.
-use Rattle.std.proofs.Common.{rules, not, ◌||◌, suc, get_or, take, Result, ◌≡◌, ℕ, ◌+◌, ◌<◌, ◌≤◌, List, ◌∷◌, ◌++◌, length, drop, Ok, Err, codes, refl, sym, ap, ◌∙◌, subst, arith, IsTrue, All}
-use Rattle.std.specs.Prelude.{IfSome, Option, option_copied, slice_get}
+use Rattle.std.proofs.Common.{rules, not, ◌||◌, suc, get_or, take, Result, ◌≡◌, ℕ, ◌+◌, ◌<◌, ◌≤◌, List, ◌∷◌, ◌++◌, length, Ok, Err, codes, refl, sym, ap, ◌∙◌, subst, arith, IsTrue, All}
+use Rattle.std.specs.Prelude.{IfSome, Option, option_copied}
 use Rattle.serde_json.specs.Data.{Data}
 use Rattle.fanout.specs.Items.{is_whole, items}
 use Rattle.tree_types.specs.declared.path.Sel.TheVariants.{Group, Item, Step, Task as task_sel}
 use Rattle.meaning.specs.declared.lines.Place.{Place}
 use Rattle.meaning.specs.Answers.{Sels}
 use Rattle.meaning.specs.Lines.{Made, row_in}
-use Rattle.meaning.specs.Steps.{Member, members, members_at, member_place, group_place, group_made, groups_from, steps_made}
+use Rattle.meaning.specs.Steps.{Member, members, member_place, group_place, group_made, groups_from, steps_made}
 use Rattle.meaning.specs.Calls.{looped, template_made, hooked, saving, calls}
 use Rattle.locality.proofs.OffPath.{apart_on_way}
 use Rattle.tree_state.specs.Counting.{Gives}
 use Rattle.tree_walk.specs.Walkable.{IsNamed}
 use Rattle.tree_walk.specs.Walking.{label_of, prefix_of}
-use Rattle.tree_change.specs.Inside.Groups.{KeepsGroup, KeepsGroups}
-use Rattle.tree_change.proofs.Beside.{same_below, group_beside, groups_were, all_at, group_stood, groups_stood}
+use Rattle.tree_change.specs.Inside.Groups.{KeepsGroup, KeepsFront, IsSaid, first_groups}
+use Rattle.tree_walk.specs.declared.over.Row.{Row}
+use Rattle.row_states.specs.Rows.{count_row}
+use Rattle.wf_manifest.specs.declared.calls.Call.{Call}
+use Rattle.tree_change.proofs.Beside.{same_below, groups_were, all_at}
 use Rattle.tree_change.proofs.Calling.{alike, called_enters, item_done, hooked_longer, count_saving, one_again, one_was, looped_was, looped_again, template_was, item_was}
 use Rattle.tree_change.proofs.Changing.{steps_template_again, steps_template_saved, dag_were, dag_template_again, dag_template_saved}
-use Rattle.tree_change.proofs.Given.{some_same}
-use Rattle.tree_walk.proofs.Groups.{members_calls, turn, groups_fail, groups_room, groups_next, groups_done}
-use Rattle.tree_change.proofs.Keeping.{group_keeps, groups_keep, group_refused, groups_refused, seen_over, groups_end, steps_done}
+use Rattle.tree_walk.proofs.Groups.{turn}
+use Rattle.tree_change.proofs.Keeping.{group_keeps, steps_done}
+use Rattle.tree_change.proofs.Passing.{call_low, front_fails, front_shared, front_alone, front_went, front_long, group_stood, members_seen, group_fails, next_front, next_went, next_long, next_room, last_front, groups_end}
 use Rattle.tree_change.proofs.Placing.{item_told, item_had, item_fails, item_put, items_listed, items_fail, member_low, member_had, member_fails, member_put, members_listed, members_fail}
-use Rattle.tree_walk.proofs.Rooms.{gives_as, by_err, part_fails, few_in_row, long_more}
+use Rattle.tree_walk.proofs.Rooms.{gives_as, by_err, part_fails, few_in_row}
 use Rattle.meaning.specs.Dags.{task_place, standings, dag_made}
 use Rattle.locality.specs.Answered.{SameBut}
 use Rattle.tree_state.specs.declared.refused.TreeRefused.{TreeRefused}
@@ -214,7 +217,8 @@ steps-groups-requires g t c κs within =
     let B = g.R.Recorded.answers c.args.self.now.before.now in
     let scopes = c.args.self.now.walk.globals.now in
     let was = c.in_ok-before.ensures ∙ groups_were (calls m B scopes c.args.left) c.args.place c.args.scope.now c.args.declared.now c.args.groups.now c.args.old.now c.requires.was in
-    (omega arith, (within, (c.requires.resumes, (c.requires.named, (c.in_ok-take.ensures.few, (c.requires.shallow, was))))))
+    let low : c.args.j < length c.in_ok-before.before = omega (arith, call_low c.args.old.now.parts c.args.j c.requires.exists, ap length c.in_ok-before.ensures) in
+    (omega arith, (within, (c.requires.resumes, (c.requires.named, (c.in_ok-take.ensures.few, (c.requires.shallow, (low, was)))))))
 
 pub steps-returns : goal.steps-returns
 steps-returns g t c =
@@ -222,7 +226,45 @@ steps-returns g t c =
     let A = g.R.Recorded.answers c.args.self.now.walk.recorded.now in
     let scopes = c.args.self.now.walk.globals.now in
     let called = calls m A scopes c.args.left in
-    steps_done called c.args.place c.args.scope.now c.args.declared.now c.args.groups.now c.in_ok-row.row c.in_ok-steps_over.field-0 c.args.room.now c.take.new.self c.groups.new.room c.in_ok-take.ensures.takes c.in_ok-row.ensures c.in_ok-steps_over.ensures
+    let whole = groups_from called c.args.place 0 c.args.scope.now c.args.groups.now in
+    let said = subst (λ (r : Row). IsSaid r c.args.declared.now whole) (sym c.into_row.ensures) (c.in_ok-ready_for_outputs.ensures called c.args.place c.in_ok-front.ensures.0) in
+    steps_done called c.args.place c.args.scope.now c.args.declared.now c.args.groups.now c.in_ok-front.front c.into_row.result c.in_ok-steps_over.field-0 c.args.room.now c.take.new.self c.groups.new.room c.in_ok-take.ensures.takes c.in_ok-front.ensures said c.in_ok-steps_over.ensures
+
+pub groups-returns-in_err-shared_first : goal.groups-returns-in_err-shared_first
+groups-returns-in_err-shared_first g t c =
+    let m = c.args.self.now.walk.manifest.now in
+    let A = g.R.Recorded.answers c.args.self.now.walk.recorded.now in
+    let B = g.R.Recorded.answers c.args.self.now.before.now in
+    let scopes = c.args.self.now.walk.globals.now in
+    let called = calls m A scopes c.args.left in
+    let whole = groups_from called c.args.place.now 0 c.args.scope.now c.args.groups.now in
+    by_err (λ r. KeepsFront c.args.room.now c.shared_first.new.room r c.args.scope.now whole) c.from_residual.result c.in_err-shared_first.field-0.0 c.from_residual.ensures.1
+    (front_fails m A B scopes c.args.left c.args.place.now c.args.scope.now c.args.groups.now c.args.j c.args.rest.now c.requires.resumes.same c.args.old.now c.requires.was c.requires.exists c.args.room.now c.shared_first.new.room c.in_err-shared_first.field-0.0 c.in_err-shared_first.ensures)
+
+pub groups-loop-i-init : goal.groups-loop-i-init
+groups-loop-i-init g t c =
+    let m = c.args.self.now.walk.manifest.now in
+    let A = g.R.Recorded.answers c.args.self.now.walk.recorded.now in
+    let B = g.R.Recorded.answers c.args.self.now.before.now in
+    let scopes = c.args.self.now.walk.globals.now in
+    let called = calls m A scopes c.args.left in
+    let made = first_groups called c.args.place.now c.args.scope.now c.args.groups.now c.args.j in
+    let shared = c.in_ok-shared_first.ensures.0 ∙ front_shared m A B scopes c.args.left c.args.place.now c.args.scope.now c.args.groups.now c.args.j c.args.rest.now c.requires.resumes.same c.args.old.now c.requires.was c.requires.exists in
+    record {
+      front = c.in_ok-front.ensures made shared (λ none. front_alone m A B scopes c.args.left c.args.place.now c.args.scope.now c.args.groups.now c.args.j c.args.rest.now c.requires.resumes.same c.args.old.now c.requires.was c.requires.exists (sym shared ∙ none));
+      went = front_went m A B scopes c.args.left c.args.place.now c.args.scope.now c.args.groups.now c.args.j c.args.rest.now c.requires.resumes.same c.args.old.now c.requires.was c.requires.exists;
+      long = front_long m A B scopes c.args.left c.args.place.now c.args.scope.now c.args.groups.now c.args.j c.args.rest.now c.requires.resumes.same c.args.old.now c.requires.was c.requires.exists;
+      room = omega (arith, ap count_row (front_shared m A B scopes c.args.left c.args.place.now c.args.scope.now c.args.groups.now c.args.j c.args.rest.now c.requires.resumes.same c.args.old.now c.requires.was c.requires.exists), c.in_ok-shared_first.ensures.1);
+    }
+
+pub groups-overflow_cast-i : goal.groups-overflow_cast-i
+groups-overflow_cast-i g t c =
+    let m = c.args.self.now.walk.manifest.now in
+    let A = g.R.Recorded.answers c.args.self.now.walk.recorded.now in
+    let scopes = c.args.self.now.walk.globals.now in
+    let made = first_groups (calls m A scopes c.args.left) c.args.place.now c.args.scope.now c.args.groups.now c.loop-i.i in
+    let small = few_in_row made.all c.loop-i.i c.loop-i.room c.args.room.now c.loop-i.invariant.long c.loop-i.invariant.room c.requires.few in
+    omega (arith, small)
 
 pub groups-group_at-requires : goal.groups-group_at-requires
 groups-group_at-requires g t c κs within =
@@ -230,79 +272,78 @@ groups-group_at-requires g t c κs within =
     let A = g.R.Recorded.answers c.args.self.now.walk.recorded.now in
     let B = g.R.Recorded.answers c.args.self.now.before.now in
     let scopes = c.args.self.now.walk.globals.now in
-    let parts = turn c.as_slice-calls-items.result.now c.args.groups.now c.loop-calls.i c.loop-calls.calls-index c.calls-item.result c.as_slice-calls-items.ensures c.loop-calls.invariant.counted c.loop-calls-test.true c.calls-item.is in
-    let named : All IsNamed c.calls-item.result = search rules in
-    (omega arith, (within, (c.requires.resumes, (named, (c.requires.shallow, (λ le. group_stood m A B scopes c.args.left c.args.place.now c.loop-calls.row.scope c.loop-calls.i c.calls-item.result (drop c.loop-calls.i c.args.groups.now) (drop (c.loop-calls.i + 1) c.args.groups.now) c.args.old.now (c.loop-calls.invariant.as_before le) parts))))))
+    let called = calls m A scopes c.args.left in
+    let cs = c.get-calls.result.now in
+    let at = c.get-calls.ensures in
+    let made = first_groups called c.args.place.now c.args.scope.now c.args.groups.now c.loop-i.i in
+    let ready = c.in_ok-ready_for_group.ensures called c.args.place.now c.loop-i.i c.loop-i.invariant.front in
+    let named = all_at (λ (ds : List Call). All IsNamed ds) c.args.groups.now c.loop-i.i cs c.requires.named at in
+    (omega arith, (within, (c.requires.resumes, (named, (c.requires.shallow, (c.loop-i.auto.i, (λ it. c.state-before.ensures ∙ group_stood m A B scopes c.args.left c.args.place.now c.args.scope.now c.args.groups.now c.args.j c.args.rest.now c.requires.resumes.same c.args.old.now c.requires.was c.requires.exists c.loop-i.i cs c.ready_for_group.new.self.row.scope c.get.result.now it at c.get.ensures ready.1)))))))
 
 pub groups-returns-in_err-group : goal.groups-returns-in_err-group
 groups-returns-in_err-group g t c =
     let m = c.args.self.now.walk.manifest.now in
     let A = g.R.Recorded.answers c.args.self.now.walk.recorded.now in
+    let B = g.R.Recorded.answers c.args.self.now.before.now in
     let scopes = c.args.self.now.walk.globals.now in
     let called = calls m A scopes c.args.left in
-    let parts = turn c.as_slice-calls-items.result.now c.args.groups.now c.loop-calls.i c.loop-calls.calls-index c.calls-item.result c.as_slice-calls-items.ensures c.loop-calls.invariant.counted c.loop-calls-test.true c.calls-item.is in
-    by_err (λ r. KeepsGroups c.args.room.now c.group_at.new.room r (groups_from called c.args.place.now 0 c.args.scope.now c.args.groups.now)) c.from_residual-in_err-group.result c.in_err-group.field-0.0 c.from_residual-in_err-group.ensures.1
-    (groups_refused c.args.room.now c.group_at.new.room (groups_from called c.args.place.now 0 c.args.scope.now c.args.groups.now) c.in_err-group.field-0.0 (groups_fail called (alike m A scopes c.args.left) c.args.place.now c.args.scope.now c.args.groups.now c.loop-calls.row.states c.loop-calls.i c.loop-calls.row.scope c.calls-item.result (drop c.loop-calls.i c.args.groups.now) parts c.loop-calls.invariant.told (group_place c.args.place.now c.loop-calls.i) c.args.room.now c.loop-calls.room c.group_at.new.room c.in_err-group.field-0.0 refl c.loop-calls.invariant.room (group_refused c.loop-calls.room c.group_at.new.room (group_place c.args.place.now c.loop-calls.i) (members_at called c.args.place.now c.loop-calls.i c.loop-calls.row.scope c.calls-item.result) c.in_err-group.field-0.0 c.in_err-group.ensures)))
+    let cs = c.get-calls.result.now in
+    let at = c.get-calls.ensures in
+    let made = first_groups called c.args.place.now c.args.scope.now c.args.groups.now c.loop-i.i in
+    let ready = c.in_ok-ready_for_group.ensures called c.args.place.now c.loop-i.i c.loop-i.invariant.front in
+    let node = group_place c.args.place.now c.loop-i.i in
+    let seen = members_seen m A scopes c.args.left c.args.place.now c.loop-i.i c.ready_for_group.new.self.row.scope made.scope cs ready.1 in
+    let whole = groups_from called c.args.place.now 0 c.args.scope.now c.args.groups.now in
+    by_err (λ r. KeepsFront c.args.room.now c.group_at.new.room r c.args.scope.now whole) c.from_residual-in_err-group.result c.in_err-group.field-0.0 c.from_residual-in_err-group.ensures.1
+    (group_fails called c.args.place.now c.args.scope.now c.args.groups.now (alike m A scopes c.args.left) c.loop-i.i cs at c.loop-i.invariant.went c.args.room.now c.loop-i.room c.group_at.new.room c.in_err-group.field-0.0 c.loop-i.invariant.room
+    (subst (λ (ms : List Member). KeepsGroup c.loop-i.room c.group_at.new.room (Err c.in_err-group.field-0.0) node ms) seen c.in_err-group.ensures))
 
 pub groups-returns-then-not-goes_on : goal.groups-returns-then-not-goes_on
 groups-returns-then-not-goes_on g t c =
     let m = c.args.self.now.walk.manifest.now in
     let A = g.R.Recorded.answers c.args.self.now.walk.recorded.now in
+    let B = g.R.Recorded.answers c.args.self.now.before.now in
     let scopes = c.args.self.now.walk.globals.now in
     let called = calls m A scopes c.args.left in
-    let parts = turn c.as_slice-calls-items.result.now c.args.groups.now c.loop-calls.i c.loop-calls.calls-index c.calls-item.result c.as_slice-calls-items.ensures c.loop-calls.invariant.counted c.loop-calls-test.true c.calls-item.is in
-    groups_end called (alike m A scopes c.args.left) c.args.place.now c.args.scope.now c.args.groups.now c.loop-calls.row.states c.loop-calls.i c.loop-calls.row.scope c.calls-item.result (drop c.loop-calls.i c.args.groups.now) parts c.loop-calls.invariant.told c.in_ok-group.group c.add.new.self c.has_succeeded-goes_on.result c.args.room.now c.loop-calls.room c.group_at.new.room c.in_ok-add.ensures c.in_ok-group.ensures.0 (sym c.has_succeeded-goes_on.ensures) c.if-not-goes_on.true c.loop-calls.invariant.room c.in_ok-group.ensures.1
+    let cs = c.get-calls.result.now in
+    let at = c.get-calls.ensures in
+    let made = first_groups called c.args.place.now c.args.scope.now c.args.groups.now c.loop-i.i in
+    let ready = c.in_ok-ready_for_group.ensures called c.args.place.now c.loop-i.i c.loop-i.invariant.front in
+    let node = group_place c.args.place.now c.loop-i.i in
+    let seen = members_seen m A scopes c.args.left c.args.place.now c.loop-i.i c.ready_for_group.new.self.row.scope made.scope cs ready.1 in
+    let kept = subst (λ (ms : List Member). KeepsGroup c.loop-i.room c.group_at.new.room (Ok c.in_ok-group.group) node ms) seen c.in_ok-group.ensures in
+    last_front called c.args.place.now c.args.scope.now c.args.groups.now (alike m A scopes c.args.left) c.loop-i.i cs at c.loop-i.invariant.went c.ready_for_group.new.self c.add.new.self c.in_ok-group.group c.in_ok-add.ensures ready.0 kept.0 c.has_succeeded-goes_on.result (sym c.has_succeeded-goes_on.ensures) c.if-not-goes_on.true c.args.room.now c.loop-i.room c.group_at.new.room c.loop-i.invariant.room kept.1
+
+pub groups-loop-i-preserved : goal.groups-loop-i-preserved
+groups-loop-i-preserved g t c =
+    let m = c.args.self.now.walk.manifest.now in
+    let A = g.R.Recorded.answers c.args.self.now.walk.recorded.now in
+    let B = g.R.Recorded.answers c.args.self.now.before.now in
+    let scopes = c.args.self.now.walk.globals.now in
+    let called = calls m A scopes c.args.left in
+    let cs = c.get-calls.result.now in
+    let at = c.get-calls.ensures in
+    let made = first_groups called c.args.place.now c.args.scope.now c.args.groups.now c.loop-i.i in
+    let ready = c.in_ok-ready_for_group.ensures called c.args.place.now c.loop-i.i c.loop-i.invariant.front in
+    let node = group_place c.args.place.now c.loop-i.i in
+    let seen = members_seen m A scopes c.args.left c.args.place.now c.loop-i.i c.ready_for_group.new.self.row.scope made.scope cs ready.1 in
+    let kept = subst (λ (ms : List Member). KeepsGroup c.loop-i.room c.group_at.new.room (Ok c.in_ok-group.group) node ms) seen c.in_ok-group.ensures in
+    record {
+      front = next_front called c.args.place.now c.args.scope.now c.args.groups.now (alike m A scopes c.args.left) c.loop-i.i cs at c.loop-i.invariant.went c.ready_for_group.new.self c.add.new.self c.in_ok-group.group c.in_ok-add.ensures ready.0 kept.0 c.has_succeeded-goes_on.result (sym c.has_succeeded-goes_on.ensures) c.if-not-goes_on.false;
+      went = next_went called c.args.place.now c.args.scope.now c.args.groups.now (alike m A scopes c.args.left) c.loop-i.i cs at c.loop-i.invariant.went c.ready_for_group.new.self c.add.new.self c.in_ok-group.group c.in_ok-add.ensures ready.0 kept.0 c.has_succeeded-goes_on.result (sym c.has_succeeded-goes_on.ensures) c.if-not-goes_on.false;
+      long = next_long called c.args.place.now c.args.scope.now c.args.groups.now (alike m A scopes c.args.left) c.loop-i.i cs at c.loop-i.invariant.went c.ready_for_group.new.self c.add.new.self c.in_ok-group.group c.in_ok-add.ensures ready.0 kept.0 c.has_succeeded-goes_on.result (sym c.has_succeeded-goes_on.ensures) c.loop-i.invariant.long;
+      room = next_room called c.args.place.now c.args.scope.now c.args.groups.now (alike m A scopes c.args.left) c.loop-i.i cs at c.loop-i.invariant.went c.ready_for_group.new.self c.add.new.self c.in_ok-group.group c.in_ok-add.ensures ready.0 kept.0 c.has_succeeded-goes_on.result (sym c.has_succeeded-goes_on.ensures) c.args.room.now c.loop-i.room c.group_at.new.room c.loop-i.invariant.room kept.1;
+    }
 
 pub groups-returns : goal.groups-returns
 groups-returns g t c =
     let m = c.args.self.now.walk.manifest.now in
     let A = g.R.Recorded.answers c.args.self.now.walk.recorded.now in
-    let scopes = c.args.self.now.walk.globals.now in
-    let called = calls m A scopes c.args.left in
-    let past : length c.args.groups.now ≤ c.loop-calls.i = omega (arith, c.loop-calls.invariant.counted, ap length c.as_slice-calls-items.ensures, c.loop-calls-test.false) in
-    groups_keep c.args.room.now c.loop-calls.room (Ok c.loop-calls.row) (groups_from called c.args.place.now 0 c.args.scope.now c.args.groups.now)
-    (groups_done called (alike m A scopes c.args.left) c.args.place.now c.args.scope.now c.args.groups.now c.loop-calls.row c.loop-calls.i c.args.room.now c.loop-calls.room past c.loop-calls.invariant.told c.loop-calls.invariant.room)
-
-pub groups-overflow_add-i : goal.groups-overflow_add-i
-groups-overflow_add-i g t c =
-    let small = few_in_row c.loop-calls.row.states c.loop-calls.i c.loop-calls.room c.args.room.now c.loop-calls.invariant.long c.loop-calls.invariant.room c.requires.few in
-    omega (arith, small)
-
-pub groups-loop-calls-preserved : goal.groups-loop-calls-preserved
-groups-loop-calls-preserved g t c =
-    let m = c.args.self.now.walk.manifest.now in
-    let A = g.R.Recorded.answers c.args.self.now.walk.recorded.now in
     let B = g.R.Recorded.answers c.args.self.now.before.now in
     let scopes = c.args.self.now.walk.globals.now in
     let called = calls m A scopes c.args.left in
-    let here = group_place c.args.place.now c.loop-calls.i in
-    let parts = turn c.as_slice-calls-items.result.now c.args.groups.now c.loop-calls.i c.loop-calls.calls-index c.calls-item.result c.as_slice-calls-items.ensures c.loop-calls.invariant.counted c.loop-calls-test.true c.calls-item.is in
-    let seen = seen_over here (members_at called c.args.place.now c.loop-calls.i c.loop-calls.row.scope c.calls-item.result) c.in_ok-group.group c.has_succeeded-goes_on.result c.in_ok-group.ensures.0 (sym c.has_succeeded-goes_on.ensures) c.if-not-goes_on.false in
-    record {
-      counted = omega (arith, c.loop-calls.invariant.counted);
-      told = groups_next called (alike m A scopes c.args.left) c.args.place.now c.args.scope.now c.args.groups.now c.loop-calls.row.states c.loop-calls.i c.loop-calls.row.scope c.calls-item.result (drop c.loop-calls.i c.args.groups.now) parts c.loop-calls.invariant.told here refl c.in_ok-group.group c.add.new.self c.in_ok-add.ensures seen c.has_succeeded-goes_on.result (sym c.has_succeeded-goes_on.ensures) c.if-not-goes_on.false;
-      long = ap (λ r. length r.states) c.in_ok-add.ensures ∙ long_more c.loop-calls.row.states c.in_ok-group.group.state c.loop-calls.i c.loop-calls.invariant.long;
-      room = groups_room called (alike m A scopes c.args.left) c.args.place.now c.args.scope.now c.args.groups.now c.loop-calls.row.states c.loop-calls.i c.loop-calls.row.scope c.calls-item.result (drop c.loop-calls.i c.args.groups.now) parts c.loop-calls.invariant.told here refl c.in_ok-group.group c.add.new.self c.in_ok-add.ensures seen c.has_succeeded-goes_on.result (sym c.has_succeeded-goes_on.ensures) c.args.room.now c.loop-calls.room c.group_at.new.room c.loop-calls.invariant.room c.in_ok-group.ensures.1;
-      as_before = λ le.
-          let low : c.loop-calls.i < c.args.j = omega (arith, le) in
-          let held : c.loop-calls.i ≤ c.args.j = omega (arith, le) in
-          groups_stood m A B scopes c.args.left c.args.place.now c.loop-calls.row.scope c.loop-calls.i c.args.j c.calls-item.result (drop c.loop-calls.i c.args.groups.now) (drop (c.loop-calls.i + 1) c.args.groups.now) c.args.rest.now c.args.old.now c.in_ok-group.group c.add.new.self c.has_succeeded-goes_on.result c.requires.resumes.same low (c.loop-calls.invariant.as_before held) parts seen (ap (λ r. r.scope) c.in_ok-add.ensures) (sym c.has_succeeded-goes_on.ensures) c.if-not-goes_on.false;
-    }
-
-pub group_at-returns-then-i-j : goal.group_at-returns-then-i-j
-group_at-returns-then-i-j g t c =
-    let m = c.args.self.now.walk.manifest.now in
-    let A = g.R.Recorded.answers c.args.self.now.walk.recorded.now in
-    let B = g.R.Recorded.answers c.args.self.now.before.now in
-    let scopes = c.args.self.now.walk.globals.now in
-    let here = group_place c.args.place.now c.args.i in
-    let mine = members_at (calls m A scopes c.args.left) c.args.place.now c.args.i c.args.scope.now c.args.calls.now in
-    let theirs = members_at (calls m B scopes c.args.left) c.args.place.now c.args.i c.args.scope.now c.args.calls.now in
-    let held : c.args.i ≤ c.args.j = omega (arith, c.if-i-j.true) in
-    let was : c.get.result.now ≡ group_made here theirs = some_same c.get.result.now (group_made here theirs) (slice_get c.args.old.now c.args.i) c.get.ensures (c.requires.was held) in
-    let stays : theirs ≡ mine = group_beside m A B scopes c.args.left c.args.place.now c.args.i c.args.j c.args.scope.now c.args.calls.now c.args.rest.now c.requires.resumes.same c.if-i-j.true in
-    group_keeps c.args.room.now c.shared_group.new.room c.shared_group.result here mine
-    (c.shared_group.ensures here mine (members_calls (calls m A scopes c.args.left) here c.args.scope.now 0 c.args.calls.now) (was ∙ ap (λ (ms : List Member). group_made here ms) stays))
+    let past : length c.args.groups.now ≤ c.loop-i.i = omega arith in
+    groups_end called c.args.place.now c.args.scope.now c.args.groups.now c.loop-i.i c.loop-i.front c.args.room.now c.loop-i.room past c.loop-i.invariant.front c.loop-i.invariant.room
 
 pub group_at-returns-then-j-i : goal.group_at-returns-then-j-i
 group_at-returns-then-j-i g t c =
@@ -321,26 +362,16 @@ group_at-returns g t c =
     let Kept = λ (p : Place). KeepsGroup c.args.room.now c.group-2.new.room c.group-2.result p (members called p c.args.scope.now c.args.calls.now) in
     subst Kept c.in_ok-at.ensures c.group-2.ensures
 
-pub group_at-get-requires-2 : goal.group_at-get-requires-2
-group_at-get-requires-2 g t c =
-    let m = c.args.self.now.walk.manifest.now in
-    let B = g.R.Recorded.answers c.args.self.now.before.now in
-    let theirs = members_at (calls m B c.args.self.now.walk.globals.now c.args.left) c.args.place.now c.args.i c.args.scope.now c.args.calls.now in
-    is_low c.args.old.now c.args.i (group_made (group_place c.args.place.now c.args.i) theirs) (c.requires.was c.if-j-i.false)
-
 pub group_at-group-requires-2 : goal.group_at-group-requires-2
 group_at-group-requires-2 g t c κs within =
     let m = c.args.self.now.walk.manifest.now in
     let A = g.R.Recorded.answers c.args.self.now.walk.recorded.now in
     let B = g.R.Recorded.answers c.args.self.now.before.now in
     let other = calls m B c.args.self.now.walk.globals.now c.args.left in
-    let here = group_place c.args.place.now c.args.i in
-    let theirs = members_at other c.args.place.now c.args.i c.args.scope.now c.args.calls.now in
     let at = c.in_ok-at.ensures in
-    let it : c.args.j ≡ c.args.i = omega (arith, c.if-i-j.false, c.if-j-i.false) in
+    let it : c.args.j ≡ c.args.i = omega (arith, c.requires.turn, c.if-j-i.false) in
     let same = same_below A B c.args.place.now.sels c.in_ok-at.at.sels (Group c.args.i) (Group c.args.j ∷ c.args.rest.now) c.args.rest.now c.requires.resumes.same (ap (λ (n : ℕ). Group n ∷ c.args.rest.now) it) (ap (λ (p : Place). p.sels) at) in
-    let stood : c.get-2.result.now ≡ group_made here theirs = some_same c.get-2.result.now (group_made here theirs) (slice_get c.args.old.now c.args.i) c.get-2.ensures (c.requires.was c.if-j-i.false) in
-    let was = c.state-before.ensures ∙ stood ∙ ap (λ (p : Place). group_made p (members other p c.args.scope.now c.args.calls.now)) (sym at) in
+    let was = c.requires.was (sym it) ∙ ap (λ (p : Place). group_made p (members other p c.args.scope.now c.args.calls.now)) (sym at) in
     let depth : c.in_ok-at.at.depth ≡ suc c.args.place.now.depth = ap (λ (p : Place). p.depth) at in
     (omega arith, (within, (record { ready = c.requires.resumes.ready; same = same }, (c.requires.named, (omega (arith, depth, c.requires.shallow), was)))))
 

@@ -1,13 +1,12 @@
 -- How the calls of a walk that is made again go down, and what its loops keep.
-use Rattle.std.proofs.Common.{◌≡◌, ◌+◌, ◌*◌, ◌≤◌, length, take, drop}
-use Rattle.meaning.specs.Steps.{groups_from}
+use Rattle.std.proofs.Common.{◌≡◌, ◌+◌, ◌*◌, length, take}
 use Rattle.meaning.specs.Dags.{standings}
 use Rattle.meaning.specs.Calls.{calls}
 use Rattle.dag_board.specs.Boards.{IsBoard}
 use Rattle.tree_walk.specs.Inside.Tasks.{count_at}
 use Rattle.row_states.specs.Rows.{count_row}
-use Rattle.scope_laws.specs.Agreeing.{GroupsAlike}
-use Rattle.tree_walk.proofs.Groups.{behind}
+use Rattle.tree_change.specs.Inside.Groups.{IsFront, first_groups}
+use Rattle.tree_change.proofs.Fronts.{Went}
 use Rattle.tree_change.proofs.again.Again.+again.Given as goal
 
 abbrev pub decreases-call : goal.decreases-call
@@ -49,20 +48,18 @@ decreases-group g l = 32 * l.left + 4
 abbrev pub decreases-member : goal.decreases-member
 decreases-member g l = 32 * l.left + 2
 
--- the groups before this one are made, and Succeeded; up to the one that the path goes down into they are as they were
-abbrev pub invariant-groups-loop-calls : goal.invariant-groups-loop-calls
-invariant-groups-loop-calls g l =
+-- the groups before this one are made, and Succeeded
+abbrev pub invariant-groups-loop-i : goal.invariant-groups-loop-i
+invariant-groups-loop-i g l =
     let m = l.self.walk.manifest.now in
     let A = g.R.Recorded.answers l.self.walk.recorded.now in
-    let B = g.R.Recorded.answers l.self.before.now in
     let scopes = l.self.walk.globals.now in
-    let called = calls m A scopes l.left in
+    let made = first_groups (calls m A scopes l.left) l.place l.scope l.groups l.i in
     record {
-      counted : l.i ≡ l.calls-index;
-      told : GroupsAlike (behind l.row.states (groups_from called l.place l.i l.row.scope (drop l.i l.groups))) (groups_from called l.place 0 l.scope l.groups);
-      long : length l.row.states ≡ l.i;
-      room : l.room + count_row l.row.states ≡ l.fn.room;
-      as_before : l.i ≤ l.j → drop l.i l.old ≡ (groups_from (calls m B scopes l.left) l.place l.i l.row.scope (drop l.i l.groups)).all;
+      front : IsFront l.front l.scope made;
+      went : Went made.all;
+      long : length made.all ≡ l.i;
+      room : l.room + count_row made.all ≡ l.fn.room;
     }
 
 abbrev pub decreases-other : goal.decreases-other

@@ -2,5 +2,5 @@
 use Rattle.std.proofs.Common.{sym}
 use Rattle.worker_job.proofs.job.Job.go_on.Goals as goal
 
-pub marks_at-marks-requires : goal.marks_at-marks-requires
-marks_at-marks-requires c = λ s viewed. c.requires.goes_on s c.in-Some.object.now viewed (sym c.in-Some.ensures)
+pub marks_at-requires : goal.marks_at-requires
+marks_at-requires c = λ s viewed. c.requires.goes_on s c.in-Some.object.now viewed (sym c.in-Some.ensures)

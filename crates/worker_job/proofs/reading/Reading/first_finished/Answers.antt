@@ -11,11 +11,11 @@ pub returns-in-None : goal.returns-in-None
 returns-in-None c =
     let r = c.args.self.now in
     podded (reads.settling r) (ended r.job.now.views.pods r.object.now) (wants_of r.object.now) None (settling_only r) (settles_ended r)
-    (found_by ended c.pods.ensures.looks c.pods.ensures.object (c.in-None.ensures.first (known_by ended c.pods.ensures.looks c.pods.ensures.object r.marks.settled c.requires.marked.settled.first)))
+    (found_by ended c.pods.ensures.looks c.pods.ensures.object (c.in-None.ensures.first (known_by ended c.pods.ensures.looks c.pods.ensures.object r.marks.now.settled c.requires.marked.settled.first)))
 
 pub returns-in-Some : goal.returns-in-Some
 returns-in-Some c =
     let r = c.args.self.now in
     c.finished.ensures
     ∙ podded (reads.settling r) (ended r.job.now.views.pods r.object.now) (wants_of r.object.now) (Some c.in-Some.want.now) (settling_only r) (settles_ended r)
-    (found_by ended c.pods.ensures.looks c.pods.ensures.object (c.in-Some.ensures.first (known_by ended c.pods.ensures.looks c.pods.ensures.object r.marks.settled c.requires.marked.settled.first)))
+    (found_by ended c.pods.ensures.looks c.pods.ensures.object (c.in-Some.ensures.first (known_by ended c.pods.ensures.looks c.pods.ensures.object r.marks.now.settled c.requires.marked.settled.first)))

@@ -11,11 +11,11 @@ pub returns-in-None : goal.returns-in-None
 returns-in-None c =
     let r = c.args.self.now in
     podded (reads.creating r) (absent r.job.now.views.pods r.object.now) (wants_of r.object.now) None (creating_only r) (creates_absent r)
-    (found_by absent c.pods.ensures.looks c.pods.ensures.object (c.in-None.ensures.first (known_by absent c.pods.ensures.looks c.pods.ensures.object r.marks.created c.requires.marked.created.first)))
+    (found_by absent c.pods.ensures.looks c.pods.ensures.object (c.in-None.ensures.first (known_by absent c.pods.ensures.looks c.pods.ensures.object r.marks.now.created c.requires.marked.created.first)))
 
 pub returns-in-Some : goal.returns-in-Some
 returns-in-Some c =
     let r = c.args.self.now in
     c.noted.ensures
     ∙ podded (reads.creating r) (absent r.job.now.views.pods r.object.now) (wants_of r.object.now) (Some c.in-Some.want.now) (creating_only r) (creates_absent r)
-    (found_by absent c.pods.ensures.looks c.pods.ensures.object (c.in-Some.ensures.first (known_by absent c.pods.ensures.looks c.pods.ensures.object r.marks.created c.requires.marked.created.first)))
+    (found_by absent c.pods.ensures.looks c.pods.ensures.object (c.in-Some.ensures.first (known_by absent c.pods.ensures.looks c.pods.ensures.object r.marks.now.created c.requires.marked.created.first)))
