@@ -275,7 +275,6 @@ groups-group_at-requires g t c κs within =
     let called = calls m A scopes c.args.left in
     let cs = c.get-calls.result.now in
     let at = c.get-calls.ensures in
-    let made = first_groups called c.args.place.now c.args.scope.now c.args.groups.now c.loop-i.i in
     let ready = c.in_ok-ready_for_group.ensures called c.args.place.now c.loop-i.i c.loop-i.invariant.front in
     let named = all_at (λ (ds : List Call). All IsNamed ds) c.args.groups.now c.loop-i.i cs c.requires.named at in
     (omega arith, (within, (c.requires.resumes, (named, (c.requires.shallow, (c.loop-i.auto.i, (λ it. c.state-before.ensures ∙ group_stood m A B scopes c.args.left c.args.place.now c.args.scope.now c.args.groups.now c.args.j c.args.rest.now c.requires.resumes.same c.args.old.now c.requires.was c.requires.exists c.loop-i.i cs c.ready_for_group.new.self.row.scope c.get.result.now it at c.get.ensures ready.1)))))))
@@ -284,7 +283,6 @@ pub groups-returns-in_err-group : goal.groups-returns-in_err-group
 groups-returns-in_err-group g t c =
     let m = c.args.self.now.walk.manifest.now in
     let A = g.R.Recorded.answers c.args.self.now.walk.recorded.now in
-    let B = g.R.Recorded.answers c.args.self.now.before.now in
     let scopes = c.args.self.now.walk.globals.now in
     let called = calls m A scopes c.args.left in
     let cs = c.get-calls.result.now in
@@ -302,7 +300,6 @@ pub groups-returns-then-not-goes_on : goal.groups-returns-then-not-goes_on
 groups-returns-then-not-goes_on g t c =
     let m = c.args.self.now.walk.manifest.now in
     let A = g.R.Recorded.answers c.args.self.now.walk.recorded.now in
-    let B = g.R.Recorded.answers c.args.self.now.before.now in
     let scopes = c.args.self.now.walk.globals.now in
     let called = calls m A scopes c.args.left in
     let cs = c.get-calls.result.now in
@@ -318,7 +315,6 @@ pub groups-loop-i-preserved : goal.groups-loop-i-preserved
 groups-loop-i-preserved g t c =
     let m = c.args.self.now.walk.manifest.now in
     let A = g.R.Recorded.answers c.args.self.now.walk.recorded.now in
-    let B = g.R.Recorded.answers c.args.self.now.before.now in
     let scopes = c.args.self.now.walk.globals.now in
     let called = calls m A scopes c.args.left in
     let cs = c.get-calls.result.now in
@@ -339,7 +335,6 @@ pub groups-returns : goal.groups-returns
 groups-returns g t c =
     let m = c.args.self.now.walk.manifest.now in
     let A = g.R.Recorded.answers c.args.self.now.walk.recorded.now in
-    let B = g.R.Recorded.answers c.args.self.now.before.now in
     let scopes = c.args.self.now.walk.globals.now in
     let called = calls m A scopes c.args.left in
     let past : length c.args.groups.now ≤ c.loop-i.i = omega arith in
@@ -471,7 +466,6 @@ other-dag-requires g t c κs within =
     let A = g.R.Recorded.answers c.args.self.now.walk.recorded.now in
     let B = g.R.Recorded.answers c.args.self.now.before.now in
     let scopes = c.args.self.now.walk.globals.now in
-    let called = calls m A scopes c.args.left in
     let u = c.args.template.now in
     let same = subst (λ (r : Sels). SameBut A B (c.args.place.sels ++ r)) c.in-Some.ensures.path c.requires.resumes.same in
     let was = dag_were m A B (c.args.place.sels ++ c.args.rest.now) c.requires.resumes.same scopes c.args.left c.args.place c.args.scope.now u c.in-Some.dag.now c.args.old.now c.requires.was c.requires.runs c.in-Some.ensures.dag in
@@ -483,7 +477,6 @@ other-missed_dag-requires g t c κs within =
     let A = g.R.Recorded.answers c.args.self.now.walk.recorded.now in
     let B = g.R.Recorded.answers c.args.self.now.before.now in
     let scopes = c.args.self.now.walk.globals.now in
-    let called = calls m A scopes c.args.left in
     let u = c.args.template.now in
     let same = subst (λ (r : Sels). SameBut A B (c.args.place.sels ++ r)) c.in-Some.ensures.path c.requires.resumes.same in
     let was = dag_were m A B (c.args.place.sels ++ c.args.rest.now) c.requires.resumes.same scopes c.args.left c.args.place c.args.scope.now u c.in-Some.dag.now c.args.old.now c.requires.was c.requires.runs c.in-Some.ensures.dag in
@@ -539,10 +532,8 @@ missed_dag-returns g t c =
 pub dag-tasks-requires : goal.dag-tasks-requires
 dag-tasks-requires g t c κs within =
     let m = c.args.self.now.walk.manifest.now in
-    let A = g.R.Recorded.answers c.args.self.now.walk.recorded.now in
     let B = g.R.Recorded.answers c.args.self.now.before.now in
     let scopes = c.args.self.now.walk.globals.now in
-    let called = calls m A scopes c.args.left in
     let were = c.in_ok-were.ensures m B scopes c.args.left c.args.place c.args.scope.now c.args.declared.now (c.in_ok-before.ensures ∙ ap (λ (b : Made). row_in b.parts) c.requires.was) c.len.ensures in
     (omega arith, (within, (c.requires.resumes, (c.requires.walkable, (c.in_ok-plan.ensures, (c.requires.shallow, were))))))
 
@@ -710,7 +701,6 @@ pub freed-begun-requires : goal.freed-begun-requires
 freed-begun-requires g t c κs within =
     let m = c.args.self.now.walk.manifest.now in
     let A = g.R.Recorded.answers c.args.self.now.walk.recorded.now in
-    let B = g.R.Recorded.answers c.args.self.now.before.now in
     let scopes = c.args.self.now.walk.globals.now in
     let called = calls m A scopes c.args.left in
     let seen = seen_by A called c.args.place.now c.args.scope.now c.args.dag.now c.args.task.now in
@@ -721,7 +711,6 @@ pub freed-returns-then-not-begins : goal.freed-returns-then-not-begins
 freed-returns-then-not-begins g t c =
     let m = c.args.self.now.walk.manifest.now in
     let A = g.R.Recorded.answers c.args.self.now.walk.recorded.now in
-    let B = g.R.Recorded.answers c.args.self.now.before.now in
     let scopes = c.args.self.now.walk.globals.now in
     let called = calls m A scopes c.args.left in
     task_ready A called (alike m A scopes c.args.left) c.args.place.now c.args.scope.now c.args.dag.now c.args.plan.now c.args.k c.args.i c.args.task.now c.requires.turn c.in_ok-at.at c.in_ok-at.ensures c.requires.free c.begins.result c.begins.ensures c.args.board.now c.set_ready.new.self c.args.room.now c.if-not-begins.true c.requires.board c.set_ready.ensures
@@ -730,7 +719,6 @@ pub freed-returns-in_err-made : goal.freed-returns-in_err-made
 freed-returns-in_err-made g t c =
     let m = c.args.self.now.walk.manifest.now in
     let A = g.R.Recorded.answers c.args.self.now.walk.recorded.now in
-    let B = g.R.Recorded.answers c.args.self.now.before.now in
     let scopes = c.args.self.now.walk.globals.now in
     let called = calls m A scopes c.args.left in
     let seen = seen_by A called c.args.place.now c.args.scope.now c.args.dag.now c.args.task.now in
@@ -744,7 +732,6 @@ pub freed-returns : goal.freed-returns
 freed-returns g t c =
     let m = c.args.self.now.walk.manifest.now in
     let A = g.R.Recorded.answers c.args.self.now.walk.recorded.now in
-    let B = g.R.Recorded.answers c.args.self.now.before.now in
     let scopes = c.args.self.now.walk.globals.now in
     let called = calls m A scopes c.args.left in
     let seen = seen_by A called c.args.place.now c.args.scope.now c.args.dag.now c.args.task.now in
@@ -796,7 +783,6 @@ inside-call-requires-2 g t c κs within =
     let A = g.R.Recorded.answers c.args.self.now.walk.recorded.now in
     let B = g.R.Recorded.answers c.args.self.now.before.now in
     let scopes = c.args.self.now.walk.globals.now in
-    let called = calls m A scopes c.args.left in
     let same = same_inside m A B scopes c.args.left c.args.place.now c.args.scope.now c.args.dag.now c.args.plan.now c.requires.plan c.args.j c.args.were.now c.requires.were c.args.rest.now c.requires.resumes.same c.args.i c.args.task.now c.requires.task c.args.at c.requires.at c.args.inner.now c.requires.values c.in-Some.old.now c.in-Some.ensures in
     let was = c.state-before.ensures ∙ was_inside m A B scopes c.args.left c.args.place.now c.args.scope.now c.args.dag.now c.args.plan.now c.requires.plan c.args.j c.args.were.now c.requires.were c.args.rest.now c.requires.resumes.same c.args.i c.args.task.now c.requires.task c.args.at c.requires.at c.args.inner.now c.requires.values c.in-Some.old.now c.in-Some.ensures in
     let depth : c.args.at.depth ≡ suc c.args.place.now.depth = ap (λ (p : Place). p.depth) c.requires.at in
