@@ -131,13 +131,13 @@ module _ (m : Manifest) (J : Facts) where
       (on_by_answers m (answers J) (answers (J ++ f ∷ [])) (want.Pod p) (says_more f a) (ticks f) (is_fair f a) (want_of (want.Pod p) (wants m J) h) unanswered)
 
   -- the pods of before are asked for on, but for those that these are
-  abbrev Stay : Fact → List Want → Type 0
+  abbrev pub Stay : Fact → List Want → Type 0
   Stay f ws = (p : Path) → Among (want.Pod p) (pods m J) → Among (want.Pod p) ws
 
-  stay : (f : Fact) → IsAnswer m J f → ((p : Path) → settled_in p.sels f ≡ None) → ((p : Path) → carried_in p.sels f ≡ None) → Stay f (pods m (J ++ f ∷ []))
+  pub stay : (f : Fact) → IsAnswer m J f → ((p : Path) → settled_in p.sels f ≡ None) → ((p : Path) → carried_in p.sels f ≡ None) → Stay f (pods m (J ++ f ∷ []))
   stay f a s c p h = on f a p h (s p) (c p)
 
-  stay_but : (q : Path) (o : Outcome) → IsAnswer m J (Settled q o) → Stay (Settled q o) (want.Pod q ∷ pods m (J ++ Settled q o ∷ []))
+  pub stay_but : (q : Path) (o : Outcome) → IsAnswer m J (Settled q o) → Stay (Settled q o) (want.Pod q ∷ pods m (J ++ Settled q o ∷ []))
   stay_but q o a p h = by (sels_eq q.sels p.sels) refl
     where
       by : (b : Bool) → sels_eq q.sels p.sels ≡ b → Among (want.Pod p) (want.Pod q ∷ pods m (J ++ Settled q o ∷ []))
@@ -145,7 +145,7 @@ module _ (m : Manifest) (J : Facts) where
       by false e = inr (on (Settled q o) a p h (ap (λ (b : Bool). cond b (Some o) None) e) refl)
 
   -- all that are asked for are pods
-  all_stay : (f : Fact) (ws : List Want) → Stay f ws → (w : Want) → Among w (pods m J) → Among w ws
+  pub all_stay : (f : Fact) (ws : List Want) → Stay f ws → (w : Want) → Among w (pods m J) → Among w ws
   all_stay f ws s (want.Pod p) h = s p h
   all_stay f ws s (want.Lock p l) h = absurd (cc (is_pod (want.Lock p l) (wants m J) h))
   all_stay f ws s (want.LookUp p c k g) h = absurd (cc (is_pod (want.LookUp p c k g) (wants m J) h))

@@ -1,3 +1,5 @@
 pub mod Few
+pub mod Fronts
 pub mod Asked
+pub mod Ordered
 pub mod Names

@@ -1,5 +1,5 @@
 -- Which pods a tree asks for once one fact more is recorded, beside those that it asked for before.
-use Rattle.std.specs.Prelude.{◌≡◌, ◌≤◌, ◌+◌, ℕ, List, [], ◌∷◌, ◌++◌, length, Option, option_map}
+use Rattle.std.specs.Prelude.{◌≡◌, ◌≤◌, ◌+◌, ℕ, suc, Bool, false, List, [], ◌∷◌, ◌++◌, length, take, Option, None, option_map}
 use Rattle.std.specs.List.{find}
 use Rattle.tree_types.specs.declared.path.Path.{Path}
 use Rattle.tree_types.specs.declared.node.Node.{Node}
@@ -30,6 +30,13 @@ NoneNew newer older = (w : Want) → Among w newer → Among w older
 abbrev pub OneNew : List Want → List Want → Type 0
 OneNew newer older =
     (v w : Want) → Among v newer → Among w newer → (Among v older → ⊥) → (Among w older → ⊥) → v ≡ w
+
+-- Where none of so many older ones from the first passes a test, and no new one passes it, none of one fewer of the newer ones
+-- does: of the older ones one at the most is gone, and the others stand in their order.
+abbrev pub KeepsFront : List Want → List Want → Type 0
+KeepsFront newer older =
+    (passes : Want → Bool) (n : ℕ) → find passes (take (suc n) older) ≡ None →
+    ((w : Want) → Among w newer → (Among w older → ⊥) → passes w ≡ false) → find passes (take n newer) ≡ None
 
 -- A fact that answers what is asked for: a pod that is settled was asked for. Of what is carried over, and of a task that
 -- begins, nothing is said.
@@ -65,3 +72,7 @@ OneNewByCount =
 -- they keep their names
 abbrev pub NamesAreKept : Type 0
 NamesAreKept = (m : Manifest) (J : Facts) (f : Fact) → IsAnswer m J f → KeepsNames m J (J ++ f ∷ [])
+
+-- and of those in front of them one at the most is gone
+abbrev pub FrontIsKept : Type 0
+FrontIsKept = (m : Manifest) (J : Facts) (f : Fact) → IsAnswer m J f → KeepsFront (pods m (J ++ f ∷ [])) (pods m J)

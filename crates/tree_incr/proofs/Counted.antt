@@ -14,7 +14,7 @@ use Rattle.meaning.specs.Answers.{path, Sels, Facts, answers}
 use Rattle.meaning.specs.Trees.{tree, wants}
 use Rattle.growth.specs.Growth.{Among}
 use Rattle.askings.specs.Owners.{WaitsAsk}
-use Rattle.pod_laws.specs.NewPods.{pods, IsAnswer, answered, NoneNewByCount, OneNewByCount, NamesAreKept}
+use Rattle.pod_laws.specs.NewPods.{pods, IsAnswer, answered, NoneNewByCount, OneNewByCount, NamesAreKept, FrontIsKept}
 use Rattle.pod_laws.proofs.Asked.{pod_of}
 use Rattle.tree_incr.specs.declared.new_pods.NewPods.{NewPods}
 use Rattle.tree_incr.specs.declared.new_pods.NewPods.TheVariants.{None, OneAtMost, Unknown}
@@ -45,7 +45,7 @@ is_asked law m J p n at runs =
 
 -- ---- by counts
 
-module _ (none_new : NoneNewByCount) (one_new : OneNewByCount) (names : NamesAreKept) (m : Manifest) (J : Facts) (f : Fact) (is : IsAnswer m J f) where
+module _ (none_new : NoneNewByCount) (one_new : OneNewByCount) (names : NamesAreKept) (front : FrontIsKept) (m : Manifest) (J : Facts) (f : Fact) (is : IsAnswer m J f) where
   pub told_by : (many before now : ℕ) (r : NewPods) → many ≡ answered f → before ≡ length (pods m J) → now ≡ length (pods m (J ++ f ∷ [])) →
       FitsCounts many before now r → TellsNewPods r record { manifest = m; facts = J ++ f ∷ [] }
   told_by many before now None a b n fits = record {
@@ -53,6 +53,7 @@ module _ (none_new : NoneNewByCount) (one_new : OneNewByCount) (names : NamesAre
     fact = f;
     last = refl;
     names = names m J f is;
+    front = front m J f is;
     pods = none_new m J f is (omega (arith, a, b, n, fits));
   }
   told_by many before now OneAtMost a b n fits = record {
@@ -60,6 +61,7 @@ module _ (none_new : NoneNewByCount) (one_new : OneNewByCount) (names : NamesAre
     fact = f;
     last = refl;
     names = names m J f is;
+    front = front m J f is;
     pods = one_new m J f is (omega (arith, a, b, n, fits));
   }
   told_by many before now Unknown a b n fits = tt

@@ -2,17 +2,19 @@
 use Rattle.std.specs.Prelude.{◌≡◌, ◌≤◌, ◌+◌, ℕ, List, [], ◌∷◌, ◌++◌}
 use Rattle.tree_types.specs.declared.fact.Fact.{Fact}
 use Rattle.tree_types.specs.declared.want.Want.{Want}
-use Rattle.pod_laws.specs.NewPods.{pods, NoneNew, OneNew, KeepsNames}
+use Rattle.pod_laws.specs.NewPods.{pods, NoneNew, OneNew, KeepsNames, KeepsFront}
 use Rattle.tree_incr.specs.declared.new_pods.NewPods.{NewPods}
 use Rattle.tree_incr.specs.declared.new_pods.NewPods.TheVariants.{None, OneAtMost, Unknown}
 use Rattle.tree_incr.specs.Workflows.{Workflow}
 
--- so the pods that it asks for stand to those that it asked for before its last fact, which keep the names of their nodes
+-- so the pods that it asks for stand to those that it asked for before its last fact, which keep the names of their nodes and,
+-- but for one at the most, what stands in front of them
 pub record LastAdds (Stand : List Want → List Want → Type 0) (w : Workflow) : Type 0 where
   pub before : List Fact
   pub fact : Fact
   pub last : w.facts ≡ before ++ fact ∷ []
   pub names : KeepsNames w.manifest before w.facts
+  pub front : KeepsFront (pods w.manifest w.facts) (pods w.manifest before)
   pub pods : Stand (pods w.manifest w.facts) (pods w.manifest before)
 
 abbrev pub TellsNewPods : NewPods → Workflow → Type 0

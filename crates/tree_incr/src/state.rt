@@ -21,7 +21,7 @@ use crate::new_pods::{NewPods, by_counts};
 use crate::next::{next_tree, path_of, unstarted_tree};
 use askings::laws::waits_ask;
 use base_types::{Memory, TryCopy};
-use pod_laws::laws::{names_are_kept, none_new_by_count, one_new_by_count};
+use pod_laws::laws::{front_is_kept, names_are_kept, none_new_by_count, one_new_by_count};
 use shared_facts::SharedFacts;
 use std::marker::Model;
 use std::sync::Arc;
@@ -162,6 +162,7 @@ impl TreeState {
         none_new_by_count();
         one_new_by_count();
         names_are_kept();
+        front_is_kept();
         let Some(answered) = answered else {
             return NewPods::Unknown;
         };

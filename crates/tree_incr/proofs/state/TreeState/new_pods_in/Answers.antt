@@ -21,6 +21,6 @@ returns c f answer is =
     let answers_so = subst (λ (o : Option ℕ). IfSome o (λ count. IsAnswer w.manifest w.facts f × (count ≡ answered f))) c.in-Some.is answer.counts in
     let then = lines_kept law c.self.inside w c.self.invariant c.self.view_is c.deref.result.now c.deref.ensures in
     let now = ap lines_of is.meant ∙ law w.manifest (answers (w.facts ++ f ∷ [])) in
-    told_by c.none_new_by_count.ensures c.one_new_by_count.ensures c.names_are_kept.ensures w.manifest w.facts f answers_so.0
+    told_by c.none_new_by_count.ensures c.one_new_by_count.ensures c.names_are_kept.ensures c.front_is_kept.ensures w.manifest w.facts f answers_so.0
     c.in-Some.answered c.in-Some-pods.before c.in-Some-pods-2.now c.by_counts.result answers_so.1
     (c.in-Some-pods.ensures ∙ ap many then) (c.in-Some-pods-2.ensures ∙ ap many now) c.by_counts.ensures
