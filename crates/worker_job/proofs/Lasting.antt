@@ -1,6 +1,6 @@
 -- Marks that outlast a fact by which a workflow asks for no new pod, or for one that was not looked at.
-use Rattle.std.proofs.Common.{◌≡◌, ℕ, ◌+◌, Bool, true, false, true≢false, cond, List, [], ◌∷◌, ◌++◌, length, take, length-append, refl, sym, ap, ap₂, ◌∙◌, subst, Option, None, arith}
-use Rattle.std.specs.Prelude.{◌==◌, is_none}
+use Rattle.std.proofs.Common.{◌≡◌, ℕ, zero, suc, ◌+◌, inl, inr, Bool, true, false, true≢false, cond, List, [], ◌∷◌, ◌++◌, length, take, length-append, refl, sym, ap, ap₂, ◌∙◌, subst, Option, None, arith}
+use Rattle.std.specs.Prelude.{◌==◌, ◌-◌, is_none}
 use Rattle.std.specs.List.{find}
 use Rattle.std.proofs.Math.Seq.{take-append_seam}
 use Rattle.std.proofs.lemmas.Bool.Decides.{nat_tests}
@@ -12,7 +12,8 @@ use Rattle.meaning.specs.Answers.{Facts}
 use Rattle.meaning.specs.Trees.{tree}
 use Rattle.growth.specs.Growth.{Among}
 use Rattle.tree_state.specs.Finding.{pods_in}
-use Rattle.pod_laws.specs.NewPods.{pods, name_at, NoneNew, OneNew}
+use Rattle.tree_eval.specs.Pods.{NoneAmong}
+use Rattle.pod_laws.specs.NewPods.{pods, name_at, NoneNew, OneNew, KeepsFront}
 use Rattle.tree_incr.specs.Workflows.{Workflow}
 use Rattle.tree_incr.specs.NewPods.{LastAdds}
 use Rattle.law.specs.Documents.{Text}
@@ -24,11 +25,17 @@ use Rattle.worker_job.specs.declared.marks.Marks.{Marks}
 use Rattle.worker_job.specs.declared.marks.Read.{Read}
 use Rattle.worker_job.specs.declared.marks.Read.TheVariants.{First, AllBut}
 use Rattle.worker_job.specs.Jobs.{HasMore}
-use Rattle.worker_job.specs.Inside.Marks.{pod_name, by_name, looks_so, has_ended, notes_absent, unread, all, IsKnown, IsUnread, IsOnlyUnread, IsReadMark, IsMarked, GoesOnBy, if_all, read_of_all, of_all}
+use Rattle.worker_job.specs.Inside.Marks.{pod_name, by_name, looks_so, has_ended, notes_absent, unread, all, IsKnown, IsUnread, IsOnlyUnread, IsReadMark, IsMarked, GoesOnBy, one_fewer, read_left, left}
 use Rattle.worker_job.proofs.Passing.{off_at, lacks_by}
 use Rattle.worker_job.proofs.Marked.{known_any, known_none}
 
 -- ---- the pods that were asked for keep their names, so that a test of their last looks says what it said
+
+among_take : {A : Type 0} (n : ℕ) (xs : List A) (x : A) → Among x (take n xs) → Among x xs
+among_take zero xs x here = absurd here
+among_take (suc n) [] x here = absurd here
+among_take (suc n) (y ∷ ys) x (inl is) = inl is
+among_take (suc n) (y ∷ ys) x (inr there) = inr (among_take n ys x there)
 
 module _ (ls : List Look) (f g : Flow) (names : (p : Path) → Among (want.Pod p) (pods_in (wants_of f)) → node_name g p.sels ≡ node_name f p.sels) where
   same_name : (a : Want) → Among a (pods_in (wants_of f)) → pod_name g a ≡ pod_name f a
@@ -44,19 +51,39 @@ module _ (ls : List Look) (f g : Flow) (names : (p : Path) → Among (want.Pod p
     off_before a here lacks =
         ap (by_name test ls) (same_name a here) ∙ off_at (looks_so test ls f) (pods_in (wants_of f)) a here lacks
 
-    known_by : (n : ℕ) (b : Bool) → (n == all) ≡ b → (find (looks_so test ls f) (pods_in (wants_of f)) ≡ None → find (looks_so test ls g) (pods_in (wants_of g)) ≡ None) → IsKnown n (looks_so test ls f) (pods_in (wants_of f)) → IsKnown (cond b n 0) (looks_so test ls g) (pods_in (wants_of g))
-    known_by n true is still known =
-        known_any (looks_so test ls g) n (pods_in (wants_of g)) (still (known.whole (grind (arith, nat_tests))))
-    known_by n false is still known = known_none (looks_so test ls g) (pods_in (wants_of g))
+    -- none of those from the first passes by its name of now
+    front_before : (n : ℕ) → NoneAmong n (looks_so test ls f) (pods_in (wants_of f)) → NoneAmong n (looks_so test ls g) (pods_in (wants_of f))
+    front_before n lacks =
+        lacks_by (looks_so test ls g) (take n (pods_in (wants_of f))) (λ a here. ap (by_name test ls) (same_name a (among_take n (pods_in (wants_of f)) a here)) ∙ off_at (looks_so test ls f) (take n (pods_in (wants_of f))) a here lacks)
 
-    -- what is known of all
-    known_still : (n : ℕ) → (find (looks_so test ls f) (pods_in (wants_of f)) ≡ None → find (looks_so test ls g) (pods_in (wants_of g)) ≡ None) → IsKnown n (looks_so test ls f) (pods_in (wants_of f)) → IsKnown (if_all n) (looks_so test ls g) (pods_in (wants_of g))
-    known_still n still known = known_by n (n == all) refl still known
+    -- a new one does not pass
+    NewOff : Type 0
+    NewOff = (a : Want) → Among a (pods_in (wants_of g)) → (Among a (pods_in (wants_of f)) → ⊥) → looks_so test ls g a ≡ false
+
+    module _ (front : KeepsFront (pods_in (wants_of g)) (pods_in (wants_of f))) (new_off : NewOff) where
+      front_now : (n : ℕ) → NoneAmong n (looks_so test ls f) (pods_in (wants_of f)) → NoneAmong (n - 1) (looks_so test ls g) (pods_in (wants_of g))
+      front_now zero lacks = refl
+      front_now (suc n) lacks = front (looks_so test ls g) n (front_before (suc n) lacks) new_off
+
+      known_by : (n : ℕ) (b : Bool) → (n == all) ≡ b → (find (looks_so test ls f) (pods_in (wants_of f)) ≡ None → find (looks_so test ls g) (pods_in (wants_of g)) ≡ None) → IsKnown n (looks_so test ls f) (pods_in (wants_of f)) → IsKnown (cond b n (n - 1)) (looks_so test ls g) (pods_in (wants_of g))
+      known_by n true is still known =
+          known_any (looks_so test ls g) n (pods_in (wants_of g)) (still (known.whole (grind (arith, nat_tests))))
+      known_by n false is still known = record {
+        first = front_now n known.first;
+        whole = λ e. still (known.whole (omega (arith, e)));
+      }
+
+      -- what is known of those from the first
+      known_still : (n : ℕ) → (find (looks_so test ls f) (pods_in (wants_of f)) ≡ None → find (looks_so test ls g) (pods_in (wants_of g)) ≡ None) → IsKnown n (looks_so test ls f) (pods_in (wants_of f)) → IsKnown (one_fewer n) (looks_so test ls g) (pods_in (wants_of g))
+      known_still n still known = known_by n (n == all) refl still known
 
     -- where no pod is new
     none_still : NoneNew (pods_in (wants_of g)) (pods_in (wants_of f)) → find (looks_so test ls f) (pods_in (wants_of f)) ≡ None → find (looks_so test ls g) (pods_in (wants_of g)) ≡ None
     none_still none lacks =
         lacks_by (looks_so test ls g) (pods_in (wants_of g)) (λ a here. off_before a (none a here) lacks)
+
+    none_off : NoneNew (pods_in (wants_of g)) (pods_in (wants_of f)) → NewOff
+    none_off none a here new = absurd (new (none a here))
 
   -- ---- where one pod at the most is new, and this is one that was not looked at, while each of those before was
 
@@ -76,6 +103,10 @@ module _ (ls : List Look) (f g : Flow) (names : (p : Path) → Among (want.Pod p
           ∙ fresh.named;
     }
 
+    one_off : (test : Option Look → Bool) → test None ≡ false → NewOff test
+    one_off test off a here new =
+        ap (looks_so test ls g) (sym (one fresh.pod a fresh.asked here (is_new fresh.pod (looks_fresh is_none)) new)) ∙ looks_fresh test ∙ off
+
     module _ (test : Option Look → Bool) (off : test None ≡ false) (lacks : find (looks_so test ls f) (pods_in (wants_of f)) ≡ None) where
       off_now : (a : Want) → Among a (pods_in (wants_of g)) → (b : Bool) → looks_so test ls g a ≡ b → b ≡ false
       off_now a here false is = refl
@@ -94,27 +125,27 @@ abbrev settles : Option Look → Bool
 settles o = has_ended (found_in o)
 
 module _ (ls : List Look) (f g : Flow) where
-  read_still : GoesOnBy NoneNew f g → (k : Read) → IsReadMark ls f k → IsReadMark ls g (read_of_all k)
-  read_still goes (First n) known = known_still ls f g goes.names is_none n (none_still ls f g goes.names is_none goes.pods) known
+  read_still : GoesOnBy NoneNew f g → (k : Read) → IsReadMark ls f k → IsReadMark ls g (read_left k)
+  read_still goes (First n) known = known_still ls f g goes.names is_none goes.front (none_off ls f g goes.names is_none goes.pods) n (none_still ls f g goes.names is_none goes.pods) known
   read_still goes (AllBut name) only = known_none (unread ls g) (pods_in (wants_of g))
 
-  -- what they say of all pods, where none is new
-  pub still_marked : GoesOnBy NoneNew f g → (k : Marks) → IsMarked ls f k → IsMarked ls g (of_all k)
+  -- what is left of them where no pod is new
+  pub still_marked : GoesOnBy NoneNew f g → (k : Marks) → IsMarked ls f k → IsMarked ls g (left k)
   still_marked goes k marked = record {
     read = read_still goes k.read marked.read;
-    settled = known_still ls f g goes.names settles k.settled (none_still ls f g goes.names settles goes.pods) marked.settled;
-    created = known_still ls f g goes.names notes_absent k.created (none_still ls f g goes.names notes_absent goes.pods) marked.created;
+    settled = known_still ls f g goes.names settles goes.front (none_off ls f g goes.names settles goes.pods) k.settled (none_still ls f g goes.names settles goes.pods) marked.settled;
+    created = known_still ls f g goes.names notes_absent goes.front (none_off ls f g goes.names notes_absent goes.pods) k.created (none_still ls f g goes.names notes_absent goes.pods) marked.created;
   }
 
   -- and where one was not looked at, of those after one at the most is new
-  pub marked_but : (name : Text) → GoesOnBy OneNew f g → (k : Marks) → IsMarked ls f k → k.read ≡ First all → IsUnread ls g name → IsMarked ls g (record { read = AllBut name; settled = if_all k.settled; created = if_all k.created })
+  pub marked_but : (name : Text) → GoesOnBy OneNew f g → (k : Marks) → IsMarked ls f k → k.read ≡ First all → IsUnread ls g name → IsMarked ls g (record { read = AllBut name; settled = one_fewer k.settled; created = one_fewer k.created })
   marked_but name goes k marked is fresh =
       let known : IsKnown all (unread ls f) (pods_in (wants_of f)) = subst (IsReadMark ls f) is marked.read in
-      let looked = known.whole refl in
+      let looked = known.whole (omega arith) in
       record {
         read = only_unread ls f g goes.names goes.pods looked name fresh;
-        settled = known_still ls f g goes.names settles k.settled (one_still ls f g goes.names goes.pods looked name fresh settles refl) marked.settled;
-        created = known_still ls f g goes.names notes_absent k.created (one_still ls f g goes.names goes.pods looked name fresh notes_absent refl) marked.created;
+        settled = known_still ls f g goes.names settles goes.front (one_off ls f g goes.names goes.pods looked name fresh settles refl) k.settled (one_still ls f g goes.names goes.pods looked name fresh settles refl) marked.settled;
+        created = known_still ls f g goes.names notes_absent goes.front (one_off ls f g goes.names goes.pods looked name fresh notes_absent refl) k.created (one_still ls f g goes.names goes.pods looked name fresh notes_absent refl) marked.created;
       }
 
 -- ---- a journal that has one fact more
@@ -139,6 +170,8 @@ module _ (Stand : List Want → List Want → Type 0) (f g : Flow) where
       let same : adds.before ≡ f.journal = one_more f.journal g.journal adds.before has.more adds.fact adds.last has.journal one in
       record {
         names = subst (λ m. Names m f.journal) has.manifest (subst (Names g.manifest) same adds.names);
+        front = subst (λ m. KeepsFront (pods g.manifest g.journal) (pods m f.journal)) has.manifest
+            (subst (λ J. KeepsFront (pods g.manifest g.journal) (pods g.manifest J)) same adds.front);
         pods = subst (λ m. Stand (pods g.manifest g.journal) (pods m f.journal)) has.manifest
             (subst (λ J. Stand (pods g.manifest g.journal) (pods g.manifest J)) same adds.pods);
       }

@@ -48,12 +48,12 @@ impl Read {
         }
     }
 
-    // What it says of all pods.
-    fn of_all(&self) -> Read
-        ensures { result ≡ marked.read_of_all self.now }
+    // What is left of it where no pod is new.
+    fn left(&self) -> Read
+        ensures { result ≡ marked.read_left self.now }
     {
         match self {
-            Read::First(known) => Read::First(if_all(*known)),
+            Read::First(known) => Read::First(one_fewer(*known)),
             Read::AllBut(_) => Read::First(0),
         }
     }
@@ -120,9 +120,8 @@ impl Marks {
         }
     }
 
-    // What is left of them once the workflow has one fact more. Of those from the first nothing is known any more, since others
-    // may be left. Of all pods each still gives nothing to a step if no pod is new; and if the one that is new is known, all but
-    // that one. What the object tells is of its last fact alone.
+    // What is left of them once the workflow has one fact more, if no pod is new or the one that is new is known. The pods stand
+    // as they stood, and one of them at the most is gone. What the object tells is of its last fact alone.
     pub(crate) fn behind(
         &self,
         fact: &Fact,
@@ -138,19 +137,19 @@ impl Marks {
             return Ok(Marks::none());
         }
         match pods.object.state().new_pods() {
-            NewPods::None => Ok(self.of_all()),
+            NewPods::None => Ok(self.left()),
             NewPods::OneAtMost => self.all_but_fresh(fact, before, pods),
             NewPods::Unknown => Ok(Marks::none()),
         }
     }
 
-    fn of_all(&self) -> Marks
-        ensures { result ≡ marked.of_all self.now }
+    fn left(&self) -> Marks
+        ensures { result ≡ marked.left self.now }
     {
         Marks {
-            read: self.read.of_all(),
-            settled: if_all(self.settled),
-            created: if_all(self.created),
+            read: self.read.left(),
+            settled: one_fewer(self.settled),
+            created: one_fewer(self.created),
         }
     }
 
@@ -172,17 +171,18 @@ impl Marks {
             None => Ok(Marks::none()),
             Some(name) => Ok(Marks {
                 read: Read::AllBut(name.copy()?),
-                settled: if_all(self.settled),
-                created: if_all(self.created),
+                settled: one_fewer(self.settled),
+                created: one_fewer(self.created),
             }),
         }
     }
 }
 
-fn if_all(known: usize) -> usize
-    ensures { result ≡ marked.if_all known }
+// So many fewer from the first, since one of them may be gone; all are all.
+fn one_fewer(known: usize) -> usize
+    ensures { result ≡ marked.one_fewer known }
 {
-    if known == ALL { known } else { 0 }
+    if known == ALL { known } else { known.saturating_sub(1) }
 }
 
 // What a step looks for among the pods that are asked for, by the last look at each: one that was not looked at, one that had

@@ -1,11 +1,12 @@
 -- Pods that are asked for, by the last looks at them, and which of them give nothing to a step.
-use Rattle.std.specs.Prelude.{◌≡◌, ℕ, ◌-◌, ◌^◌, ◌==◌, if◌then◌else◌, Bool, true, false, bytes_eq, List, find, Option, Some, None, is_some, is_none, option_and_then}
+use Rattle.std.specs.Prelude.{◌≡◌, ◌≤◌, ℕ, ◌-◌, ◌^◌, ◌==◌, if◌then◌else◌, Bool, true, false, bytes_eq, List, find, Option, Some, None, is_some, is_none, option_and_then}
 use Rattle.tree_types.specs.declared.path.Path.{Path}
 use Rattle.tree_types.specs.declared.want.Want.{Want}
 use Rattle.tree_types.specs.declared.want.Want.TheVariants as want
 use Rattle.growth.specs.Growth.{Among}
 use Rattle.tree_state.specs.Finding.{pods_in}
 use Rattle.tree_eval.specs.Pods.{NoneAmong}
+use Rattle.pod_laws.specs.NewPods.{KeepsFront}
 use Rattle.law.specs.Documents.{Text}
 use Rattle.law.specs.Contents.{Flow, PodObject}
 use Rattle.law.specs.Due.{node_name}
@@ -65,7 +66,7 @@ all = 2 ^ 64 - 1
 -- none of so many from the first passes
 pub record IsKnown (n : ℕ) (accepts : Want → Bool) (ws : List Want) : Type 0 where
   pub first : NoneAmong n accepts ws
-  pub whole : n ≡ all → find accepts ws ≡ None
+  pub whole : all ≤ n → find accepts ws ≡ None
 
 -- a pod that is asked for has this name, and was not looked at
 pub record IsUnread (ls : List Look) (f : Flow) (name : Text) : Type 0 where
@@ -125,18 +126,21 @@ after name found k = record {
 
 -- ---- what is left of them once the workflow has one fact more
 
--- the pods that were asked for keep their names, and those that are asked for now are such
+-- the pods that were asked for keep their names and, but for one at the most, what stands in front of them; and those that are
+-- asked for now are such
 pub record GoesOnBy (Holds : List Want → List Want → Type 0) (f g : Flow) : Type 0 where
   pub names : (p : Path) → Among (want.Pod p) (pods_in (wants_of f)) → node_name g p.sels ≡ node_name f p.sels
+  pub front : KeepsFront (pods_in (wants_of g)) (pods_in (wants_of f))
   pub pods : Holds (pods_in (wants_of g)) (pods_in (wants_of f))
 
--- what they say of all pods
-abbrev pub if_all : ℕ → ℕ
-if_all n = if n == all then n else 0
+-- so many fewer from the first, since one of them may be gone; all are all
+abbrev pub one_fewer : ℕ → ℕ
+one_fewer n = if n == all then n else (n - 1)
 
-abbrev pub read_of_all : Read → Read
-read_of_all (First n) = First (if_all n)
-read_of_all (AllBut name) = First 0
+abbrev pub read_left : Read → Read
+read_left (First n) = First (one_fewer n)
+read_left (AllBut name) = First 0
 
-abbrev pub of_all : Marks → Marks
-of_all k = record { read = read_of_all k.read; settled = if_all k.settled; created = if_all k.created }
+-- where no pod is new
+abbrev pub left : Marks → Marks
+left k = record { read = read_left k.read; settled = one_fewer k.settled; created = one_fewer k.created }

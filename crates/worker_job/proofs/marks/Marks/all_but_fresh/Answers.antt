@@ -23,5 +23,5 @@ returns-in_ok-copy-in-Some c =
     let k = c.args.self.now in
     let name = c.in-Some.name.now in
     let fresh : IsUnread ls g name = subst (λ o. IfSome o (λ name. IsUnread ls g name.now)) c.in-Some.is c.in_ok-fresh_name.ensures in
-    subst (IsMarked ls g) (sym (same_marks c.in_ok-copy-in-Some.ensures c.if_all.ensures c.if_all-in-Some.ensures))
+    subst (IsMarked ls g) (sym (same_marks c.in_ok-copy-in-Some.ensures c.one_fewer.ensures c.one_fewer-in-Some.ensures))
     (marked_but ls f g name c.requires.one k c.requires.marked (c.is_all.ensures c.if-not-is_all.false) fresh)

@@ -24,5 +24,5 @@ returns-in-None c =
     let newer : c.len.result ≡ length g.journal = c.len.ensures ∙ ap (λ (J : Facts). length J) c.journal.ensures in
     let older : c.len-2.result ≡ length f.journal = c.len-2.ensures ∙ ap (λ (J : Facts). length J) c.journal-2.ensures in
     let one : length g.journal ≡ length f.journal + 1 = omega (arith, newer, older, c.if-more-ne1.false) in
-    subst (IsMarked ls g) (sym c.of_all.ensures)
+    subst (IsMarked ls g) (sym c.left.ensures)
     (still_marked ls f g (goes_on_by NoneNew f g c.requires.more one c.state.result.now c.state.ensures c.in-None.ensures) c.args.self.now c.requires.marked)
