@@ -1,82 +1,87 @@
 -- The kept versions of an object over versions that are added.
-use Rattle.std.proofs.Common.{◌≡◌, ℕ, ◌+◌, ◌*◌, List, [], ◌∷◌, ◌++◌, length, refl, sym, ◌∙◌, ap, subst, arith, length-append, Option, Some, None, ◌⊎◌, inl, inr}
+use Rattle.std.proofs.Common.{◌≡◌, ℕ, ◌+◌, ◌-◌, List, [], ◌∷◌, ◌++◌, length, take, refl, sym, ◌∙◌, ap, subst, arith, length-append, Option, Some, None, ◌⊎◌, inl, inr}
 use Rattle.std.specs.Prelude.{slice_get, IsSome, ◌<◌}
 use Rattle.std.proofs.lemmas.Option.{slice_get_within}
 use Rattle.tree_types.specs.declared.entry.Entry.{Entry}
 use Rattle.object_store.specs.declared.line.Made.{Made}
 use Rattle.object_store.specs.declared.line.Change.{Change}
-use Rattle.object_store.specs.Inside.Rows.{Rows, change, first_among, fresh, StandsIn, OneMore, Leads, IsLine, Held}
+use Rattle.object_store.specs.Inside.Rows.{Rows, change, last_start, IsRowed, first_among, first_of, fresh, StandsIn, OneMore, Leads, IsLine, Held}
 use Rattle.object_store.proofs.Places.{get_at, get_left, get_seam, snoc_cases}
 
 module _ {C : Type 0} where
   pub fresh_stands : (m : Made C) → StandsIn (fresh m) (m ∷ [])
   fresh_stands m = record {
     counted = omega arith;
-    rowed = omega arith;
-    starts = λ i x at. absurd (cc);
-    last_row = λ i x at. get_at (m ∷ []) (64 * 0 + i) i x (omega arith) at;
+    first = refl;
+    row_before = λ x at. absurd (cc);
+    last_row = λ i x at. get_at (m ∷ []) (last_start (fresh m) + i) i x (omega arith) at;
   }
 
   -- a version more in the last row
-  pub pushed : (r n : Rows C) (m : Made C) (c : Change) → n.rows ≡ r.rows → n.first ≡ r.first → n.later ≡ r.later ++ m ∷ [] → n.changes ≡ r.changes ++ c ∷ [] → OneMore r m c n
-  pushed r n m c rows first later changes = record {
+  pub pushed : (r n : Rows C) (m : Made C) (c : Change) → IsRowed r.rows r.later r.changes → n.rows ≡ r.rows → n.first ≡ r.first → n.later ≡ r.later ++ m ∷ [] → n.changes ≡ r.changes ++ c ∷ [] → OneMore r m c n
+  pushed r n m c rowed rows first later changes = record {
     stands = λ all s.
         let whole = length-append all (m ∷ []) in
         let many : length n.changes ≡ length r.changes + 1 = ap length changes ∙ length-append r.changes (c ∷ []) in
         let full : length n.later ≡ length r.later + 1 = ap length later ∙ length-append r.later (m ∷ []) in
-        let same : length n.rows ≡ length r.rows = ap length rows in
         let old = s.counted in
-        let rowed = s.rowed in
         record {
           counted = omega arith;
-          rowed = omega arith;
-          starts = λ i x at. get_left all (m ∷ []) (64 * i) x (s.starts i x (sym (ap (λ xs. slice_get xs i) rows) ∙ at));
-          last_row = λ i x at. get_at (all ++ m ∷ []) (64 * length n.rows + i) (64 * length r.rows + i) x (omega arith)
+          first = get_left all (m ∷ []) 0 (first_of r) s.first ∙ ap Some (sym same_first);
+          row_before = λ x at.
+              get_at (all ++ m ∷ []) (last_start n - 64) (last_start r - 64) x (omega arith)
+              (get_left all (m ∷ []) (last_start r - 64) x (s.row_before x (sym (ap (λ xs. slice_get xs 1) rows) ∙ at)));
+          last_row = λ i x at.
+              get_at (all ++ m ∷ []) (last_start n + i) (last_start r + i) x (omega arith)
               (in_last all s i x (snoc_cases (r.first ∷ r.later) m i x (sym (ap (λ xs. slice_get xs i) (ap (λ f. f ∷ n.later) first ∙ ap (λ ms. r.first ∷ ms) later)) ∙ at)));
         };
     changes = changes;
-    first = ap (λ rs. first_among rs n.first) rows ∙ ap (first_among r.rows) first;
+    first = same_first;
   }
     where
-      in_last : (all : List (Made C)) → StandsIn r all → (i : ℕ) (x : Made C) → (slice_get (r.first ∷ r.later) i ≡ Some x) ⊎ ((i ≡ length (r.first ∷ r.later)) × (x ≡ m)) → slice_get (all ++ m ∷ []) (64 * length r.rows + i) ≡ Some x
-      in_last all s i x (inl a) = get_left all (m ∷ []) (64 * length r.rows + i) x (s.last_row i x a)
+      same_first : first_of n ≡ first_of r
+      same_first = ap (λ rs. first_among rs n.first) rows ∙ ap (first_among r.rows) first
+
+      in_last : (all : List (Made C)) → StandsIn r all → (i : ℕ) (x : Made C) → (slice_get (r.first ∷ r.later) i ≡ Some x) ⊎ ((i ≡ length (r.first ∷ r.later)) × (x ≡ m)) → slice_get (all ++ m ∷ []) (last_start r + i) ≡ Some x
+      in_last all s i x (inl a) = get_left all (m ∷ []) (last_start r + i) x (s.last_row i x a)
       in_last all s i x (inr a) =
           let counted = s.counted in
-          let rowed = s.rowed in
+          let full = rowed.full in
           let place = a.0 in
-          get_at (all ++ m ∷ []) (64 * length r.rows + i) (length all) x (omega arith) (get_seam all m ∙ ap Some (sym a.1))
+          get_at (all ++ m ∷ []) (last_start r + i) (length all) x (omega arith) (get_seam all m ∙ ap Some (sym a.1))
 
   -- a new last row
-  pub rolled : (r n : Rows C) (m : Made C) (c : Change) → length r.later + 1 ≡ 64 → n.rows ≡ r.rows ++ r.first ∷ [] → n.first ≡ m → n.later ≡ [] → n.changes ≡ r.changes ++ c ∷ [] → OneMore r m c n
+  pub rolled : (r n : Rows C) (m : Made C) (c : Change) → length r.later + 1 ≡ 64 → n.rows ≡ take 1 r.rows ++ r.first ∷ [] → n.first ≡ m → n.later ≡ [] → n.changes ≡ r.changes ++ c ∷ [] → OneMore r m c n
   rolled r n m c full rows first later changes = record {
     stands = λ all s.
         let whole = length-append all (m ∷ []) in
         let many : length n.changes ≡ length r.changes + 1 = ap length changes ∙ length-append r.changes (c ∷ []) in
         let none : length n.later ≡ 0 = ap length later in
-        let more : length n.rows ≡ length r.rows + 1 = ap length rows ∙ length-append r.rows (r.first ∷ []) in
         let old = s.counted in
-        let rowed = s.rowed in
         record {
           counted = omega arith;
-          rowed = omega arith;
-          starts = λ i x at. in_rows all s i x (snoc_cases r.rows r.first i x (sym (ap (λ xs. slice_get xs i) rows) ∙ at));
+          first = get_left all (m ∷ []) 0 (first_of r) s.first ∙ ap Some (sym same_first);
+          row_before = λ x at.
+              get_at (all ++ m ∷ []) (last_start n - 64) (last_start r + 0) x (omega arith)
+              (get_left all (m ∷ []) (last_start r + 0) x (s.last_row 0 x (second_is r.rows x (sym (ap (λ xs. slice_get xs 1) rows) ∙ at))));
           last_row = λ i x at.
-              get_at (all ++ m ∷ []) (64 * length n.rows + i) (length all + i) x (omega arith)
+              get_at (all ++ m ∷ []) (last_start n + i) (length all + i) x (omega arith)
               (in_last all i x (snoc_cases [] m i x (sym (ap (λ xs. slice_get xs i) (ap (λ f. f ∷ n.later) first ∙ ap (λ ms. m ∷ ms) later)) ∙ at)));
         };
     changes = changes;
-    first = ap (λ rs. first_among rs n.first) rows ∙ first_stays r.rows;
+    first = same_first;
   }
     where
-      first_stays : (rs : List (Made C)) → first_among (rs ++ r.first ∷ []) n.first ≡ first_among rs r.first
+      first_stays : (rs : List (Made C)) → first_among (take 1 rs ++ r.first ∷ []) n.first ≡ first_among rs r.first
       first_stays [] = refl
       first_stays (x ∷ rs) = refl
 
-      in_rows : (all : List (Made C)) → StandsIn r all → (i : ℕ) (x : Made C) → (slice_get r.rows i ≡ Some x) ⊎ ((i ≡ length r.rows) × (x ≡ r.first)) → slice_get (all ++ m ∷ []) (64 * i) ≡ Some x
-      in_rows all s i x (inl a) = get_left all (m ∷ []) (64 * i) x (s.starts i x a)
-      in_rows all s i x (inr a) =
-          let place = a.0 in
-          get_left all (m ∷ []) (64 * i) x (get_at all (64 * i) (64 * length r.rows + 0) x (omega arith) (s.last_row 0 x (ap Some (sym a.1))))
+      same_first : first_of n ≡ first_of r
+      same_first = ap (λ rs. first_among rs n.first) rows ∙ first_stays r.rows
+
+      second_is : (rs : List (Made C)) (x : Made C) → slice_get (take 1 rs ++ r.first ∷ []) 1 ≡ Some x → Some r.first ≡ Some x
+      second_is [] x at = absurd (cc)
+      second_is (y ∷ rs) x at = at
 
       in_last : (all : List (Made C)) (i : ℕ) (x : Made C) → (slice_get {X = Made C} [] i ≡ Some x) ⊎ ((i ≡ 0) × (x ≡ m)) → slice_get (all ++ m ∷ []) (length all + i) ≡ Some x
       in_last all i x (inl a) = absurd (cc)
@@ -86,8 +91,10 @@ module _ {C : Type 0} where
 
   -- ---- the last
 
-  pub last_stands : (r : Rows C) (all : List (Made C)) (m : Made C) → StandsIn r all → slice_get (r.first ∷ r.later) (length r.later) ≡ Some m → slice_get all (length r.changes) ≡ Some m
-  last_stands r all m s at = get_at all (length r.changes) (64 * length r.rows + length r.later) m s.rowed (s.last_row (length r.later) m at)
+  pub last_stands : (r : Rows C) (all : List (Made C)) (m : Made C) → IsRowed r.rows r.later r.changes → StandsIn r all → slice_get (r.first ∷ r.later) (length r.later) ≡ Some m → slice_get all (length r.changes) ≡ Some m
+  last_stands r all m rowed s at =
+      let full = rowed.full in
+      get_at all (length r.changes) (last_start r + length r.later) m (omega arith) (s.last_row (length r.later) m at)
 
 module _ {C : Type 0} (apply : C → Entry → Option C) where
   -- ---- more entries, and more versions

@@ -8,7 +8,9 @@ use std::marker::Model;
 use std::mem;
 use tree_types::{Entries, Entry};
 
-// So many versions are a row. The last row is kept whole, and of each row before it the first version.
+// So many versions are a row. The last row is kept whole. An old version of a workflow holds an old tree, so of all rows
+// before it two versions are kept. A reader rarely lags by more than a few versions, so the first of the row before the
+// last is near for it; one that lags further costs the entries since the very first version.
 const ROW: usize = 64;
 
 /// A version of an object: its content, and the clock when it was made.
@@ -28,7 +30,7 @@ pub(crate) struct Change {
 /// The versions of an object, oldest first, numbered by their positions from 0. There is a first one always.
 #[derive(Drop)]
 pub(crate) struct Line<C> {
-    // The first versions of the full rows.
+    // The very first version of all, and the first of the row before the last, as far as they lie before the last row.
     rows: Vec<Made<C>>,
     // The first version of the last row lies here, so that an object with one version has no memory of its own.
     first: Made<C>,
@@ -38,13 +40,14 @@ pub(crate) struct Line<C> {
     changes: Vec<Change>,
 }
 
-// Room for one more. Most objects are pods, which have two versions behind their first, so the first room is for two.
+// Room for one more. Most objects are pods, which are made and then finish, so they have one version behind their first,
+// and the first room is for one.
 fn reserve_one<T>(items: &mut Vec<T>) -> Result<(), Memory>
     ensures same { items.new.items ≡ items.old.items }
     ensures room { OnOk result (vec_len items.new < vec_capacity items.new) }
 {
     if items.is_empty() {
-        items.try_reserve_exact(2)?;
+        items.try_reserve_exact(1)?;
     } else {
         items.try_reserve(1)?;
     }
@@ -70,7 +73,7 @@ impl<C> Model for Line<C> {
 }
 
 impl<C> Line<C> {
-    ghost use Rattle.object_store.specs.Inside.Rows.{row_size, fresh, StandsIn};
+    ghost use Rattle.object_store.specs.Inside.Rows.{row_size, last_start, fresh, StandsIn};
 
     /// The versions of an object that was made just now.
     pub(crate) fn new(alloc: Global, made: Made<C>) -> Self
@@ -99,22 +102,24 @@ impl<C> Line<C> {
         self.later.last().unwrap_or(&self.first)
     }
 
-    /// The version at a position, or the nearest before it that is kept, with its own position.
+    /// The version at a position, or the nearest before it that is kept, with its own position. In the last row and the
+    /// row before it that is less than a row away.
     pub(crate) fn nearest(&self, at: usize) -> (usize, &Made<C>)
         requires within { at ≤ length self.now.changes }
         ensures before { result.0 ≤ at }
-        ensures near { at < result.0 + row_size }
+        ensures near { last_start self.now ≤ at + row_size → at < result.0 + row_size }
         ensures stands { (ms : List (Made C)) → StandsIn self.now ms →
             slice_get ms result.0 ≡ Some result.1.now }
     {
         let last_row = self.changes.len() - self.later.len();
-        if at < last_row {
-            let row = at / ROW;
-            (row * ROW, &self.rows[row])
+        if at > last_row {
+            (at, &self.later[at - last_row - 1])
         } else if at == last_row {
             (at, &self.first)
+        } else if self.rows.len() == 2 && at + ROW >= last_row {
+            (last_row - ROW, &self.rows[1])
         } else {
-            (at, &self.later[at - last_row - 1])
+            (0, &self.rows[0])
         }
     }
 
@@ -153,8 +158,10 @@ impl<C: Drop> Line<C> {
             entries.push(entry)?;
             self.later.push_reserved(made);
         } else {
-            self.rows.try_reserve(1)?;
+            self.rows.try_reserve_exact(2 - self.rows.len())?;
             entries.push(entry)?;
+            // Behind the very first stands only the first of the row before the last, which is now this row.
+            self.rows.truncate(1);
             self.rows.push_reserved(mem::replace(&mut self.first, made));
             self.later.clear();
         }

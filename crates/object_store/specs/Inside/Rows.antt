@@ -1,5 +1,5 @@
 -- The versions that are kept of an object, and what they tell of all of them.
-use Rattle.std.specs.Prelude.{◌≡◌, ℕ, ◌+◌, ◌*◌, ◌<◌, List, [], ◌∷◌, ◌++◌, length, slice_get, Option, Some, None}
+use Rattle.std.specs.Prelude.{◌≡◌, ℕ, ◌+◌, ◌-◌, ◌*◌, ◌<◌, ◌≤◌, List, [], ◌∷◌, ◌++◌, length, slice_get, Option, Some, None}
 use Rattle.tree_types.specs.declared.entry.Entry.{Entry}
 use Rattle.object_store.specs.declared.line.Made.{Made}
 use Rattle.object_store.specs.declared.line.Change.{Change}
@@ -11,7 +11,7 @@ row_size = 64
 abbrev pub change : ℕ → ℕ → Change
 change place tick = record { place = place; tick = tick }
 
--- the first versions of the full rows, the last row, and how each version but the very first came
+-- two versions from before the last row, the last row, and how each version but the very first came
 pub record Rows (C : Type 0) : Type 0 where
   pub rows : List (Made C)
   pub first : Made C
@@ -19,10 +19,17 @@ pub record Rows (C : Type 0) : Type 0 where
   pub changes : List Change
 
 module _ {C : Type 0} where
-  -- all rows before the last are full, and the last is no longer than a row
+  -- where the last row begins
+  abbrev pub last_start : Rows C → ℕ
+  last_start r = length r.changes - length r.later
+
+  -- the last row is no longer than a row; of the full rows before it as many have a kept version as there are, but two
+  -- at most
   pub record IsRowed (rows later : List (Made C)) (changes : List Change) : Type 0 where
-    pub counted : length changes ≡ row_size * length rows + length later
     pub few : length later < row_size
+    pub most : length rows ≤ 2
+    pub full : row_size * length rows + length later ≤ length changes
+    pub counted : length rows < 2 → length changes ≡ row_size * length rows + length later
 
   abbrev pub first_among : List (Made C) → Made C → Made C
   first_among [] m = m
@@ -36,13 +43,12 @@ module _ {C : Type 0} where
   abbrev pub fresh : Made C → Rows C
   fresh m = record { rows = []; first = m; later = []; changes = [] }
 
-  -- where the kept versions stand among all
+  -- where the kept versions stand among all: the very first, the one that is a row before the last row, and the last row
   pub record StandsIn (r : Rows C) (all : List (Made C)) : Type 0 where
     pub counted : length all ≡ length r.changes + 1
-    pub rowed : length r.changes ≡ row_size * length r.rows + length r.later
-    pub starts : (i : ℕ) (m : Made C) → slice_get r.rows i ≡ Some m → slice_get all (row_size * i) ≡ Some m
-    pub last_row : (i : ℕ) (m : Made C) →
-        slice_get (r.first ∷ r.later) i ≡ Some m → slice_get all (row_size * length r.rows + i) ≡ Some m
+    pub first : slice_get all 0 ≡ Some (first_of r)
+    pub row_before : (m : Made C) → slice_get r.rows 1 ≡ Some m → slice_get all (last_start r - row_size) ≡ Some m
+    pub last_row : (i : ℕ) (m : Made C) → slice_get (r.first ∷ r.later) i ≡ Some m → slice_get all (last_start r + i) ≡ Some m
 
   -- one version more, which came so
   pub record OneMore (old : Rows C) (made : Made C) (c : Change) (new : Rows C) : Type 0 where

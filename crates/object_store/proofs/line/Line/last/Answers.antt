@@ -1,6 +1,7 @@
 use Rattle.std.proofs.Common.{◌≡◌, ◌-◌, ◌∷◌, length, Option, Some, None, refl, sym, ap, ◌∙◌, subst, Bor, unwrap_or}
 use Rattle.std.specs.Prelude.{slice_get}
 use Rattle.std.specs.Option.{option_copied}
+use Rattle.object_store.specs.Inside.Rows.{StandsIn}
 use Rattle.object_store.proofs.Places.{get_last}
 use Rattle.object_store.proofs.Rows.{last_stands}
 use Rattle.object_store.proofs.line.Line.last.Goals as goal
@@ -18,4 +19,5 @@ returns g c = λ ms stands.
     ∙ ap (λ o. Some (unwrap_or o s.first)) (sym c.last.ensures.value)
     ∙ ap Some (behind c.last.result _)
     ∙ ap (λ b. Some b.now) (sym c.unwrap_or.ensures) in
-    last_stands c.args.self.now ms c.unwrap_or.result.now stands (subst (λ r. slice_get (r.first ∷ r.later) (length r.later) ≡ Some c.unwrap_or.result.now) c.self.view_is at_end)
+    let here = subst (λ r. StandsIn r ms) (sym c.self.view_is) stands in
+    subst (λ r. slice_get ms (length r.changes) ≡ Some c.unwrap_or.result.now) c.self.view_is (last_stands _ ms c.unwrap_or.result.now c.self.invariant here at_end)
