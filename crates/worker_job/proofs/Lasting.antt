@@ -57,13 +57,15 @@ module _ (ls : List Look) (f g : Flow) (names : (p : Path) → Among (want.Pod p
         lacks_by (looks_so test ls g) (take n (pods_in (wants_of f))) (λ a here. ap (by_name test ls) (same_name a (among_take n (pods_in (wants_of f)) a here)) ∙ off_at (looks_so test ls f) (take n (pods_in (wants_of f))) a here lacks)
 
     -- a new one does not pass
-    NewOff : Type 0
+    abbrev NewOff : Type 0
     NewOff = (a : Want) → Among a (pods_in (wants_of g)) → (Among a (pods_in (wants_of f)) → ⊥) → looks_so test ls g a ≡ false
 
     module _ (front : KeepsFront (pods_in (wants_of g)) (pods_in (wants_of f))) (new_off : NewOff) where
       front_now : (n : ℕ) → NoneAmong n (looks_so test ls f) (pods_in (wants_of f)) → NoneAmong (n - 1) (looks_so test ls g) (pods_in (wants_of g))
       front_now zero lacks = refl
-      front_now (suc n) lacks = front (looks_so test ls g) n (front_before (suc n) lacks) new_off
+      front_now (suc n) lacks =
+          let fewer : n ≡ suc n - 1 = omega arith in
+          subst (λ k. NoneAmong k (looks_so test ls g) (pods_in (wants_of g))) fewer (front (looks_so test ls g) n (front_before (suc n) lacks) new_off)
 
       known_by : (n : ℕ) (b : Bool) → (n == all) ≡ b → (find (looks_so test ls f) (pods_in (wants_of f)) ≡ None → find (looks_so test ls g) (pods_in (wants_of g)) ≡ None) → IsKnown n (looks_so test ls f) (pods_in (wants_of f)) → IsKnown (cond b n (n - 1)) (looks_so test ls g) (pods_in (wants_of g))
       known_by n true is still known =

@@ -182,7 +182,11 @@ impl Marks {
 fn one_fewer(known: usize) -> usize
     ensures { result ≡ marked.one_fewer known }
 {
-    if known == ALL { known } else { known.saturating_sub(1) }
+    if known == ALL {
+        known
+    } else {
+        known.saturating_sub(1)
+    }
 }
 
 // What a step looks for among the pods that are asked for, by the last look at each: one that was not looked at, one that had
