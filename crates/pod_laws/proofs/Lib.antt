@@ -3,3 +3,4 @@ pub mod Fronts
 pub mod Asked
 pub mod Ordered
 pub mod Names
+mod WorkedPremises
