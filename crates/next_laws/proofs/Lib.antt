@@ -6,6 +6,7 @@ pub mod Agreeing
 pub mod Ticks
 pub mod Gets
 pub mod ContentKinds
+pub mod Going
 pub mod Keeping
 pub mod Rounds
 pub mod Falling

@@ -3,24 +3,23 @@ use Rattle.std.proofs.Common.{◌≡◌, ◌⊎◌, inl, inr, ℕ, ◌<◌, Bool
 use Rattle.std.proofs.lemmas.Bool.Decides.{nat_tests}
 use Rattle.tree_types.specs.declared.fact.Fact.{Fact}
 use Rattle.tree_types.specs.declared.entry.Key.{Key}
-use Rattle.tree_types.specs.declared.entry.Key.TheVariants.{Workflow, Pod, Locks, Caches}
 use Rattle.meaning.specs.Lines.{later}
-use Rattle.history.specs.History.{Version, map_content, clock_of, version_at}
+use Rattle.history.specs.History.{map_content, clock_of}
 use Rattle.law.specs.Documents.{Text, PlannedOutcome, ended_by, Document}
-use Rattle.law.specs.Contents.{Flow, PodObject, Content, OfWorkflow, OfPod, OfLocks, OfCaches, apply, Story, flow_in, pod_in, HasFlow}
+use Rattle.law.specs.Contents.{Flow, PodObject, Story, flow_in, pod_in, HasFlow}
 use Rattle.law.specs.Justified.{IsLawful}
 use Rattle.law.specs.Due.{Matter, record_fact, due_of, IsTooLarge, IsFullBy, IsFull, PodDueAt}
 use Rattle.lawful.proofs.Facts.{some_same, none_some}
 use Rattle.next_step.specs.Views.{Seen, Views, nothing, head}
 use Rattle.next_step.specs.Next.{get, act, done, next_by, worker_next}
-use Rattle.next_step.specs.Replies.{Reply, found, accepted, no_object, exists, conflict, fault, Ending, goes_on, ended, by_absence, by_refusal, taken, after}
+use Rattle.next_step.specs.Replies.{Reply, found, accepted, no_object, exists, conflict, fault, ended, by_absence, by_refusal, after}
 use Rattle.next_step.specs.Runner.{finish, not_due, due_at, by_plan, by_outcome, runner_next}
 use Rattle.next_step.specs.Calls.{Got}
 use Rattle.next_laws.specs.Fresh.{Fresh, NextIs}
 use Rattle.next_laws.specs.Jobs.{UndisturbedGoesWell, StillEnd, as_done, as_full, as_absent, WorkerRan, Rests, RunnerRan, StillRound, StillRoundIsIdle}
 use Rattle.next_laws.proofs.Agreeing.{fresh_acts_are_due}
 use Rattle.next_laws.proofs.Gets.{OwnKey, own_key}
-use Rattle.next_laws.proofs.ContentKinds.{kind_of, kind_under, kinds_are}
+use Rattle.next_laws.proofs.Going.{not_ended, get_goes}
 use Rattle.next_laws.proofs.Viewing.{views_stay}
 use Rattle.next_laws.proofs.StayingLawful.{stays_lawful}
 use Rattle.next_laws.proofs.Keeping.{no_conflict, stays_fresh, fresh_nothing}
@@ -45,56 +44,29 @@ undisturbed_goes_well D w h g u valid begun ran =
 
 -- ---- what stands is not absent
 
-goes_ends : {B : Type 0} (v : Views) (e : Ending) → goes_on v ≡ ended e → B
-goes_ends v e q = absurd cc
-
 refused : {B : Type 0} → ended by_refusal ≡ ended by_absence → B
 refused q = absurd cc
 
-taken_stays : (v : Views) (k : Key) (n t : ℕ) (c : Content) → kind_of c ≡ kind_under k → taken v k n t c ≡ ended by_absence → ⊥
-taken_stays v (Workflow w) n t (OfWorkflow f) e q = goes_ends _ by_absence q
-taken_stays v (Pod w m) n t (OfPod pod) e q = goes_ends _ by_absence q
-taken_stays v Locks n t (OfLocks b) e q = goes_ends _ by_absence q
-taken_stays v Caches n t (OfCaches ss) e q = goes_ends _ by_absence q
-taken_stays v (Workflow w) n t (OfPod pod) e q = cc
-taken_stays v (Workflow w) n t (OfLocks b) e q = cc
-taken_stays v (Workflow w) n t (OfCaches ss) e q = cc
-taken_stays v (Pod w m) n t (OfWorkflow f) e q = cc
-taken_stays v (Pod w m) n t (OfLocks b) e q = cc
-taken_stays v (Pod w m) n t (OfCaches ss) e q = cc
-taken_stays v Locks n t (OfWorkflow f) e q = cc
-taken_stays v Locks n t (OfPod pod) e q = cc
-taken_stays v Locks n t (OfCaches ss) e q = cc
-taken_stays v Caches n t (OfWorkflow f) e q = cc
-taken_stays v Caches n t (OfPod pod) e q = cc
-taken_stays v Caches n t (OfLocks b) e q = cc
-
 module _ (D : Document) (h : Story) (l : IsLawful D h) (w : Text) (f : Flow) (s : HasFlow h w f) where
-  stood : (o : Option (Version Content)) → flow_in (map_content o) ≡ Some f → o ≡ None → ⊥
-  stood o e q = none_some f (sym (ap (λ x. flow_in (map_content x)) q) ∙ e)
-
   not_absent : (v : Views) (k : Key) (r : Reply) → OwnKey w k → Got h k r → after v (get k) r ≡ ended by_absence → ⊥
-  not_absent v k (found x) own g q = taken_stays v k x.number x.tick x.content ((kinds_are D h l).kinds k record { number = x.number; content = x.content } g.stood) q
-  not_absent v (Workflow y) no_object own g q = stood (version_at apply h (Workflow w)) s (subst (λ z. version_at apply h (Workflow z) ≡ None) own g)
-  not_absent v (Pod y name) no_object own g q = goes_ends _ by_absence q
-  not_absent v Locks no_object own g q = let x = (kinds_are D h l).locks in none_some x.version (sym g ∙ x.is)
-  not_absent v Caches no_object own g q = let x = (kinds_are D h l).caches in none_some x.version (sym g ∙ x.is)
   not_absent v k fault own g q = refused q
+  not_absent v k (found x) own g q = not_ended (after v (get k) (found x)) by_absence (get_goes D h l w f s v k (found x) own g refl) q
+  not_absent v k no_object own g q = not_ended (after v (get k) no_object) by_absence (get_goes D h l w f s v k no_object own g refl) q
   not_absent v k (accepted x) own g q = absurd g
   not_absent v k exists own g q = absurd g
   not_absent v k (conflict a b) own g q = absurd g
 
 -- ---- workers
 
-viewed_at : (D : Document) (w : Text) (v : Views) (o : Option (Seen Flow)) → v.flow ≡ o → next_by D w v o ≡ done → (s : Seen Flow) × (v.flow ≡ Some s)
+pub viewed_at : (D : Document) (w : Text) (v : Views) (o : Option (Seen Flow)) → v.flow ≡ o → next_by D w v o ≡ done → (s : Seen Flow) × (v.flow ≡ Some s)
 viewed_at D w v None e q = absurd cc
 viewed_at D w v (Some s) e q = (s, e)
 
-full_by : (f : Flow) (x : Fact) (ms : List Matter) → head ms ≡ Some (record_fact x) → IsTooLarge f x → IsFullBy f ms
+pub full_by : (f : Flow) (x : Fact) (ms : List Matter) → head ms ≡ Some (record_fact x) → IsTooLarge f x → IsFullBy f ms
 full_by f x [] e t = none_some (record_fact x) e
 full_by f x (m ∷ ms) e t = subst (λ y. IsFullBy f (y ∷ ms)) (sym (some_same m (record_fact x) e)) t
 
-first_due : (h : Story) (x : Fact) (o : Option Matter) → NextIs h (act (record_fact x)) o → o ≡ Some (record_fact x)
+pub first_due : (h : Story) (x : Fact) (o : Option Matter) → NextIs h (act (record_fact x)) o → o ≡ Some (record_fact x)
 first_due h x o (inl e) = e
 first_due h x o (inr k) = absurd k
 

@@ -1,37 +1,36 @@
 -- Why a round in which no entry came and no call failed leaves the history as it was, and tells the full workflows.
-use Rattle.std.proofs.Common.{◌≡◌, inl, inr, ℕ, List, [], ◌∷◌, ◌++◌, append-nil, filter_map, refl, sym, ◌∙◌, ap, ap₂, subst, Option, Some, None, option_and_then, arith}
+use Rattle.std.proofs.Common.{◌≡◌, ℕ, List, [], ◌∷◌, ◌++◌, append-nil, filter_map, refl, sym, ◌∙◌, ap, ap₂, subst, Option, Some, None, option_and_then, arith}
 use Rattle.std.specs.List.{cons_option}
 use Rattle.std.proofs.lemmas.List.Elements.{filter_map-append}
 use Rattle.tree_types.specs.declared.fact.Fact.{Fact}
 use Rattle.tree_types.specs.declared.outcome.Outcome.{Outcome}
 use Rattle.tree_types.specs.declared.entry.Key.{Key}
-use Rattle.tree_types.specs.declared.entry.Key.TheVariants.{Workflow, Pod, Locks, Caches}
 use Rattle.tree_types.specs.declared.entry.Entry.{Entry}
 use Rattle.tree_types.specs.declared.entry.Entry.TheVariants.{Submit, Write, Create, Finish, File, Release, Save, Tick}
 use Rattle.meaning.specs.Answers.{Facts}
-use Rattle.history.specs.History.{Event, Version, map_content, version_at}
+use Rattle.history.specs.History.{Event, map_content}
 use Rattle.law.specs.Documents.{Text, Document}
-use Rattle.law.specs.Contents.{Flow, PodObject, Content, OfWorkflow, OfPod, OfLocks, OfCaches, apply, Story, flow_in, pod_of, HasFlow}
+use Rattle.law.specs.Contents.{Flow, PodObject, Content, Story, flow_in, pod_of, HasFlow}
 use Rattle.law.specs.Justified.{IsLawful}
 use Rattle.law.specs.Due.{Matter, record_fact, file, create, save, release, submit, due_of, IsTooLarge, IsFullBy, IsFull}
 use Rattle.lawful.specs.Manifests.{HasValidWorkflows}
 use Rattle.lawful.proofs.Facts.{some_same, none_some}
 use Rattle.next_step.specs.Views.{Seen, Views, nothing, head}
-use Rattle.next_step.specs.Next.{get, act, done, next_by, worker_next}
+use Rattle.next_step.specs.Next.{get, act, done, worker_next}
 use Rattle.next_step.specs.Changes.{change_of, ViewsOf}
-use Rattle.next_step.specs.Replies.{Reply, found, accepted, no_object, exists, conflict, fault, Ending, ended, goes_on, taken, there, after}
+use Rattle.next_step.specs.Replies.{Reply, found, accepted, no_object, exists, conflict, fault, Ending, ended, there, after}
 use Rattle.next_step.specs.Calls.{Got, Did}
 use Rattle.next_step.specs.Hands.{Given, for_flow, for_pod}
 use Rattle.next_step.specs.Rounds.{submitted_by, if_unfinished, created_by, jobs_of, faults_of, WorkerEnds, by_done, by_full, by_get, by_change, JobRan, worker_ran, runner_missed, runner_rested, runner_finished, JobsRan, no_more, one_more, entries_in}
 use Rattle.next_laws.specs.Fresh.{NextIs}
 use Rattle.next_laws.specs.Jobs.{GoesWell}
 use Rattle.next_laws.proofs.Agreeing.{fresh_acts_are_due}
-use Rattle.next_laws.proofs.ContentKinds.{kind_of, kind_under, kinds_are}
 use Rattle.next_laws.proofs.Following.{fit_by}
+use Rattle.next_laws.proofs.Going.{not_ended, get_goes}
 use Rattle.next_laws.proofs.Gets.{OwnKey, own_key}
 use Rattle.next_laws.proofs.Keeping.{goes_on_from}
 use Rattle.next_laws.proofs.Reasons.{reason}
-use Rattle.next_laws.proofs.Rounds.{undisturbed_goes_well}
+use Rattle.next_laws.proofs.Rounds.{viewed_at, full_by as fact_full, first_due, undisturbed_goes_well}
 use Rattle.next_laws.proofs.RoundsEnd.{stays_viewed}
 use Rattle.next_laws.proofs.Viewing.{views_stay}
 use Rattle.run_laws.specs.Submissions.{submitted_name, submitted}
@@ -41,45 +40,10 @@ use Rattle.run_laws.proofs.Pods.{if_open}
 use Rattle.run_laws.proofs.Filtered.{filter_chain, filter_each, filter_nothing}
 use Rattle.run_laws.proofs.StillRounds.{same_story, same_middle, not_grown, ends_on, job_on, jobs_on, no_faults}
 
--- ---- a content of the key's kind ends no job
-
-goes_ends : {B : Type 0} (v : Views) (e : Ending) → goes_on v ≡ ended e → B
-goes_ends v e q = absurd cc
-
-taken_goes : (v : Views) (k : Key) (n t : ℕ) (c : Content) (end : Ending) → kind_of c ≡ kind_under k → taken v k n t c ≡ ended end → ⊥
-taken_goes v (Workflow w) n t (OfWorkflow f) end e q = goes_ends _ end q
-taken_goes v (Pod w m) n t (OfPod pod) end e q = goes_ends _ end q
-taken_goes v Locks n t (OfLocks b) end e q = goes_ends _ end q
-taken_goes v Caches n t (OfCaches ss) end e q = goes_ends _ end q
-taken_goes v (Workflow w) n t (OfPod pod) end e q = cc
-taken_goes v (Workflow w) n t (OfLocks b) end e q = cc
-taken_goes v (Workflow w) n t (OfCaches ss) end e q = cc
-taken_goes v (Pod w m) n t (OfWorkflow f) end e q = cc
-taken_goes v (Pod w m) n t (OfLocks b) end e q = cc
-taken_goes v (Pod w m) n t (OfCaches ss) end e q = cc
-taken_goes v Locks n t (OfWorkflow f) end e q = cc
-taken_goes v Locks n t (OfPod pod) end e q = cc
-taken_goes v Locks n t (OfCaches ss) end e q = cc
-taken_goes v Caches n t (OfWorkflow f) end e q = cc
-taken_goes v Caches n t (OfPod pod) end e q = cc
-taken_goes v Caches n t (OfLocks b) end e q = cc
-
-viewed_at : (D : Document) (w : Text) (v : Views) (o : Option (Seen Flow)) → v.flow ≡ o → next_by D w v o ≡ done → (s : Seen Flow) × (v.flow ≡ Some s)
-viewed_at D w v None e q = absurd cc
-viewed_at D w v (Some s) e q = (s, e)
-
-fact_full : (f : Flow) (x : Fact) (ms : List Matter) → head ms ≡ Some (record_fact x) → IsTooLarge f x → IsFullBy f ms
-fact_full f x [] e t = none_some (record_fact x) e
-fact_full f x (m ∷ ms) e t = subst (λ y. IsFullBy f (y ∷ ms)) (sym (some_same m (record_fact x) e)) t
-
-first_due : (h : Story) (x : Fact) (o : Option Matter) → NextIs h (act (record_fact x)) o → o ≡ Some (record_fact x)
-first_due h x o (inl e) = e
-first_due h x o (inr k) = absurd k
-
 -- ---- how a worker's job ends
 
 module _ (D : Document) (w : Text) (i : Story) (u : Views) (well : GoesWell D w i u) (views : ViewsOf i w u) where
-  same_flow : (s : Seen Flow) (f : Flow) → u.flow ≡ Some s → HasFlow i w f → f ≡ s.content
+  pub same_flow : (s : Seen Flow) (f : Flow) → u.flow ≡ Some s → HasFlow i w f → f ≡ s.content
   same_flow s f e st = some_same f s.content (sym st ∙ ap (λ o. flow_in (map_content o)) (well.fresh.flow s e).stood)
 
   done_not_full : worker_next D w u ≡ done → IsFullFlow D i w → ⊥
@@ -97,20 +61,9 @@ module _ (D : Document) (w : Text) (i : Story) (u : Views) (well : GoesWell D w 
         full = fact_full s.content x (due_of D i w s.content) (first_due i x (head (due_of D i w s.content)) n) t;
       }
 
-  stood : (f : Flow) (o : Option (Version Content)) → flow_in (map_content o) ≡ Some f → o ≡ None → ⊥
-  stood f o e q = none_some f (sym (ap (λ x. flow_in (map_content x)) q) ∙ e)
-
   -- where the workflow stands no get ends its job
-  get_goes : (f : Flow) → HasFlow i w f → (k : Key) (r : Reply) (e : Ending) → OwnKey w k → Got i k r → faults_of r ≡ 0 → after u (get k) r ≡ ended e → ⊥
-  get_goes f s k (found x) e own g z q = taken_goes u k x.number x.tick x.content e ((kinds_are D i well.lawful).kinds k record { number = x.number; content = x.content } g.stood) q
-  get_goes f s (Workflow y) no_object e own g z q = stood f (version_at apply i (Workflow w)) s (subst (λ x. version_at apply i (Workflow x) ≡ None) own g)
-  get_goes f s (Pod y name) no_object e own g z q = goes_ends _ e q
-  get_goes f s Locks no_object e own g z q = let x = (kinds_are D i well.lawful).locks in none_some x.version (sym g ∙ x.is)
-  get_goes f s Caches no_object e own g z q = let x = (kinds_are D i well.lawful).caches in none_some x.version (sym g ∙ x.is)
-  get_goes f s k fault e own g z q = absurd (omega (arith, z))
-  get_goes f s k (accepted x) e own g z q = absurd g
-  get_goes f s k exists e own g z q = absurd g
-  get_goes f s k (conflict a b) e own g z q = absurd g
+  pub get_goes_on : {B : Type 0} (f : Flow) → HasFlow i w f → (k : Key) (r : Reply) (e : Ending) → OwnKey w k → Got i k r → faults_of r ≡ 0 → after u (get k) r ≡ ended e → B
+  get_goes_on f s k r e own g z q = not_ended (after u (get k) r) e (get_goes D i well.lawful w f s u k r own g z) q
 
   -- what is there already ends no job: only a create is answered so
   there_goes : {B : Type 0} (m : Matter) (s : Seen Flow) (facts : Facts) (e : Ending) → ((change_of w u s facts m).number ≡ 0 → (x : Content) × ((change_of w u s facts m).event.made ≡ Some x)) → (change_of w u s facts m).number ≡ 0 → there u m ≡ ended e → B
@@ -122,7 +75,7 @@ module _ (D : Document) (w : Text) (i : Story) (u : Views) (well : GoesWell D w 
   there_goes (submit c) s facts e makes z q = absurd cc
 
   -- a change that adds no entry ends no job
-  change_goes : {B : Type 0} (m : Matter) (s : Seen Flow) (facts : Facts) (r : Reply) (g : Story) (e : Ending) → worker_next D w u ≡ act m → u.flow ≡ Some s → Did i (change_of w u s facts m) r g → faults_of r ≡ 0 → entries_in g ≡ entries_in i → after u (act m) r ≡ ended e → B
+  pub change_goes : {B : Type 0} (m : Matter) (s : Seen Flow) (facts : Facts) (r : Reply) (g : Story) (e : Ending) → worker_next D w u ≡ act m → u.flow ≡ Some s → Did i (change_of w u s facts m) r g → faults_of r ≡ 0 → entries_in g ≡ entries_in i → after u (act m) r ≡ ended e → B
   change_goes m s facts (accepted x) g e next viewed d z n on = not_grown g i (change_of w u s facts m).event d.grows n
   change_goes m s facts exists g e next viewed d z n on = there_goes m s facts e (fit_by D i w u s views viewed facts m (reason D w u s m viewed next)).makes d.0 on
   change_goes m s facts (conflict a b) g e next viewed d z n on = absurd (well.no_conflict m s facts (conflict a b) g next viewed d tt)
@@ -133,7 +86,7 @@ module _ (D : Document) (w : Text) (i : Story) (u : Views) (well : GoesWell D w 
   end_fulls : (ns ms : List Text) → Fulls D i ns ms → (calls faults : ℕ) (g : Story) → (end : WorkerEnds D w i u calls faults g) → faults ≡ 0 → entries_in g ≡ entries_in i → Fulls D i (w ∷ ns) (full_of_end end ++ ms)
   end_fulls ns ms fs calls faults g (by_done e) z n = other (done_not_full e) fs
   end_fulls ns ms fs calls faults g (by_full x s e viewed t) z n = full (fact_is_full x s e viewed t) fs
-  end_fulls ns ms fs calls faults g (by_get k r e next got on) z n = other (λ f. get_goes f.flow f.stands k r e (own_key D w u k next) got z on) fs
+  end_fulls ns ms fs calls faults g (by_get k r e next got on) z n = other (λ f. get_goes_on f.flow f.stands k r e (own_key D w u k next) got z on) fs
   end_fulls ns ms fs calls faults g (by_change m s facts r j e next viewed adds d on) z n = change_goes m s facts r g e next viewed d z n on
 
 -- ---- each job
