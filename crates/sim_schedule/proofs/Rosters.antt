@@ -1,7 +1,6 @@
 -- The jobs that are kept of a history, brought up to a later one.
-use Rattle.std.proofs.Common.{◌≡◌, ℕ, ◌+◌, ◌-◌, ◌≤◌, List, ◌++◌, length, length-append, map, filter_map, take, drop, sym, ◌∙◌, ap, ap₂, subst, arith}
-use Rattle.std.proofs.Math.Seq.{drop-append_seam, take-length}
-use Rattle.std.proofs.lemmas.List.{map-append, length-map, length-drop}
+use Rattle.std.proofs.Common.{◌≡◌, ◌-◌, ◌≤◌, List, ◌++◌, length, map, filter_map, take, drop, sym, ◌∙◌, ap, ap₂, subst}
+use Rattle.std.proofs.lemmas.List.{length-map}
 use Rattle.std.proofs.lemmas.List.Elements.{filter_map-append}
 use Rattle.tree_types.specs.declared.entry.Entry.{Entry}
 use Rattle.history.specs.History.{Event, Extends}
@@ -12,11 +11,14 @@ use Rattle.law.specs.Justified.{IsLawful}
 use Rattle.lawful.proofs.Journals.{lawful_then}
 use Rattle.next_step.specs.Hands.{Given}
 use Rattle.next_step.specs.Rounds.{submitted_by, created_by}
-use Rattle.run_laws.specs.Pods.{UnfinishedPods, still_open, created_jobs, followed}
+use Rattle.run_laws.specs.Pods.{UnfinishedPods, still_open, created_jobs}
 use Rattle.sim_schedule.specs.declared.jobs.Job.{Job}
 use Rattle.sim_schedule.specs.declared.roster.Roster.{Roster}
-use Rattle.sim_schedule.specs.Inside.Jobs.{given, flows_in, pods_in}
+use Rattle.rest_laws.specs.Pods.{PodsWait}
+use Rattle.sim_schedule.specs.Inside.Jobs.{given, flows_in, pods_in, KnowsEnds}
 use Rattle.sim_schedule.specs.Inside.Rosters.{IsOf, Follows}
+use Rattle.sim_schedule.proofs.Ends.{ends_stay}
+use Rattle.sim_schedule.proofs.Later as later
 use Rattle.sim_schedule.proofs.Listing.{filter_of_map}
 
 -- the jobs of the whole history
@@ -27,50 +29,41 @@ of_all h r es e workflows pods seen = record {
   seen = seen ∙ ap length e ∙ length-map h.events (λ (x : Event Content). x.entry);
 }
 
--- the slice of all entries from one on
-rest_of : (k : ℕ) (es : List Entry) → take (length es - k) (drop k es) ≡ drop k es
-rest_of k es = ap (λ n. take n (drop k es)) (sym (length-drop k es)) ∙ take-length (drop k es)
-
 -- ---- from one moment to a later one
 
-pub follows_on : (h g : Story) (r : Roster) → Extends g h → Follows h r → Follows g r
-follows_on h g r later f = record { at = f.at; later = extends_later g h f.at later f.later; seen = f.seen; jobs = f.jobs }
+module _ (D : Document) where
+  pub follows_on : (h g : Story) (r : Roster) → Extends g h → Follows D h r → Follows D g r
+  follows_on h g r on f = record { at = f.at; later = extends_later g h f.at on f.later; seen = f.seen; jobs = f.jobs; ends = f.ends }
 
-pub follows_now : (h g : Story) (r : Roster) → Extends g h → r.seen ≡ length h.events → ((D : Document) → IsLawful D h → IsOf h r) → Follows g r
-follows_now h g r later seen jobs = record { at = h; later = later; seen = seen; jobs = jobs }
+  pub follows_now : (h g : Story) (r : Roster) → Extends g h → r.seen ≡ length h.events → (IsLawful D h → IsOf h r) → (IsLawful D h → KnowsEnds D h r.pods) → Follows D g r
+  follows_now h g r on seen jobs ends = record { at = h; later = on; seen = seen; jobs = jobs; ends = ends }
 
-pub follows_first : (h : Story) (r : Roster) → IsOf h r → Follows h r
-follows_first h r is = follows_now h h r (extends_itself h) is.seen (λ D l. is)
+  pub follows_first : (h : Story) (r : Roster) → IsOf h r → KnowsEnds D h r.pods → Follows D h r
+  follows_first h r is known = follows_now h h r (extends_itself h) is.seen (λ l. is) (λ l. known)
 
 -- of a history that stayed as it was
 pub of_same : (h g : Story) (r : Roster) → g ≡ h → IsOf h r → IsOf g r
 of_same h g r same is = subst (λ k. IsOf k r) (sym same) is
 
-module _ (h : Story) (r : Roster) (f : Follows h r) where
+module _ (D : Document) (h : Story) (r : Roster) (f : Follows D h r) where
   pub within : r.seen ≤ length h.events
-  within =
-      let l : length h.events ≡ length f.at.events + length f.later.rest = ap length f.later.goes_on ∙ length-append f.at.events f.later.rest in
-      omega (arith, l, f.seen)
-
-  same : h ≡ followed f.at f.later.rest
-  same = ap₂ (λ start events. record { start = start; events = events }) f.later.same_start f.later.goes_on
+  within = later.within h f.at r.seen f.later f.seen
 
   new_entries : (es : List Entry) → es ≡ map (λ e. e.entry) h.events → take (length es - r.seen) (drop r.seen es) ≡ map (λ e. e.entry) f.later.rest
-  new_entries es e =
-      let before : List Entry = map (λ (x : Event Content). x.entry) f.at.events in
-      let new : List Entry = map (λ (x : Event Content). x.entry) f.later.rest in
-      let split : es ≡ before ++ new = e ∙ ap (map (λ (x : Event Content). x.entry)) f.later.goes_on ∙ map-append (λ (x : Event Content). x.entry) f.at.events f.later.rest in
-      let count : r.seen ≡ length before = f.seen ∙ sym (length-map f.at.events (λ (x : Event Content). x.entry)) in
-      rest_of r.seen es ∙ ap₂ drop count split ∙ drop-append_seam before new
+  new_entries = later.new_entries h f.at r.seen f.later f.seen
 
-  module _ (law : UnfinishedPods) (D : Document) (l : IsLawful D h) where
+  -- the ends are known still
+  pub ends_now : PodsWait → IsLawful D h → KnowsEnds D h r.pods
+  ends_now law l = ends_stay law D f.at h f.later l r.pods (f.ends (lawful_then D h f.at f.later l))
+
+  module _ (law : UnfinishedPods) (l : IsLawful D h) where
     is_at : IsOf f.at r
-    is_at = f.jobs D (lawful_then D h f.at f.later l)
+    is_at = f.jobs (lawful_then D h f.at f.later l)
 
     pods_now : created_jobs h h.events ≡ filter_map (still_open h) (created_jobs f.at f.at.events) ++ created_jobs h f.later.rest
     pods_now =
         let P : Story → Type 0 = λ g. created_jobs g g.events ≡ filter_map (still_open g) (created_jobs f.at f.at.events) ++ created_jobs g f.later.rest in
-        subst P (sym same) (law.jobs_go_on D f.at f.later.rest (lawful_then D h f.at f.later l))
+        subst P (sym (later.same h f.at r.seen f.later f.seen)) (law.jobs_go_on D f.at f.later.rest (lawful_then D h f.at f.later l))
 
     flows_now : filter_map (λ e. submitted_by e.entry) h.events ≡ filter_map (λ e. submitted_by e.entry) f.at.events ++ filter_map (λ e. submitted_by e.entry) f.later.rest
     flows_now =

@@ -1,5 +1,5 @@
 -- What a run leaves.
-use Rattle.std.specs.Prelude.{◌≡◌, ◌≢◌, ℕ, List, [], ◌∷◌, Bool, Result, Ok, Err, is_some, if◌then◌else◌}
+use Rattle.std.specs.Prelude.{◌≢◌, ℕ, List, [], ◌∷◌, Bool, Result, Ok, Err, is_some, if◌then◌else◌}
 use Rattle.tree_types.specs.declared.entry.Key.TheVariants as of_key
 use Rattle.wf_manifest.specs.declared.manifest.Manifest.{Manifest}
 use Rattle.history.specs.History.{Extends, grown, version_at}

@@ -3,12 +3,13 @@
 ghost use Rattle.std.specs.Prelude.{◌≡◌, [], ◌∷◌, IfOk, map, option_to_list};
 ghost use Rattle.std.specs.List.{flat_map};
 ghost use Rattle.history.specs.History.{clock_of};
-ghost use Rattle.law.specs.Contents.{flow_of, pod_of};
+ghost use Rattle.law.specs.Documents.{Document as LawDocument};
+ghost use Rattle.law.specs.Contents.{flow_of};
 ghost use Rattle.law.specs.Due.{command_tick};
-ghost use Rattle.next_step.specs.Ticks.{pod_end, timers, least_above, next_tick};
+ghost use Rattle.next_step.specs.Ticks.{timers, least_above, next_tick};
 ghost use Rattle.tree_state.specs.Finding.{sooner};
 ghost use Rattle.wf_object.specs.Documents.{law_of, command_of};
-ghost use Rattle.sim_schedule.specs.Inside.Jobs.{given};
+ghost use Rattle.sim_schedule.specs.Inside.Jobs.{given, KnowsEnds, Waits, AllWait};
 ghost use Rattle.sim_schedule.specs.Inside.Rosters.{IsOf, ticks_of};
 
 use crate::jobs::Job;
@@ -17,8 +18,9 @@ use base_types::{Memory, Text};
 use io_edge::Outage;
 use item_reader::Command;
 use object_store::Store;
+use rest_laws::laws::pods_wait;
 use wf_bundle::Document;
-use wf_object::{PodObject, WfContent, pod_at, workflow_at};
+use wf_object::{WfContent, workflow_at};
 
 // The sooner of two ticks, where there are any.
 fn sooner(one: Option<u64>, other: Option<u64>) -> Option<u64>
@@ -39,39 +41,18 @@ fn if_above(clock: u64, tick: u64) -> Option<u64>
     if clock < tick { Some(tick) } else { None }
 }
 
-// The tick at which a pod may end, where it has not ended and its end is planned.
-fn end_of_pod(document: &Document, workflow: &Text, node: &Text, pod: &PodObject) -> Option<u64>
-    ensures { option_to_list result
-        ≡ pod_end ((law_of document.now).planned workflow.now node.now) (Some pod.now) }
+fn end_above(clock: u64, end: Option<u64>) -> Option<u64>
+    ensures { result ≡ least_above clock (option_to_list end) }
 {
-    match pod.outcome() {
-        Some(_) => None,
-        None => match document.outcome(workflow, node) {
-            None => None,
-            Some(plan) => Some(pod.begin().saturating_add(plan.seconds)),
-        },
-    }
-}
-
-fn end_at<O: Outage>(
-    store: &Store<WfContent, O>,
-    document: &Document,
-    workflow: &Text,
-    node: &Text,
-) -> Result<Option<u64>, Memory>
-    ensures { IfOk result (λ tick. option_to_list tick
-        ≡ pod_end ((law_of document.now).planned workflow.now node.now)
-        (pod_of store.now.history workflow.now node.now)) }
-{
-    match pod_at(store, workflow, node)? {
-        None => Ok(None),
-        Some(pod) => Ok(end_of_pod(document, workflow, node, pod)),
+    match end {
+        None => None,
+        Some(tick) => if_above(clock, tick),
     }
 }
 
 // The next timer of a workflow.
 #[tactic(auto, using(crate::proofs::Dues::timers_least))]
-fn next_timer<O: Outage>(
+pub(crate) fn next_timer<O: Outage>(
     store: &Store<WfContent, O>,
     workflow: &Text,
 ) -> Result<Option<u64>, Memory>
@@ -84,38 +65,19 @@ fn next_timer<O: Outage>(
     }
 }
 
-fn next_end<O: Outage>(
-    store: &Store<WfContent, O>,
-    document: &Document,
-    workflow: &Text,
-    node: &Text,
-) -> Result<Option<u64>, Memory>
-    ensures { IfOk result (λ tick. tick ≡ least_above (clock_of store.now.history)
-        (pod_end ((law_of document.now).planned workflow.now node.now)
-        (pod_of store.now.history workflow.now node.now))) }
+// The next tick of the workflow or the pod of a job. The end of a pod is that of its job, as long as the pod has not ended.
+fn next_by<O: Outage>(store: &Store<WfContent, O>, job: &Job) -> Result<Option<u64>, Memory>
+    ensures { (D : LawDocument) → Waits D store.now.history job.now → IfOk result (λ tick. tick
+        ≡ least_above (clock_of store.now.history) (ticks_of D store.now.history (given job.now))) }
 {
-    match end_at(store, document, workflow, node)? {
-        None => Ok(None),
-        Some(tick) => Ok(if_above(store.clock(), tick)),
-    }
-}
-
-// The next tick of the workflow or the pod of a job.
-fn next_by<O: Outage>(
-    store: &Store<WfContent, O>,
-    document: &Document,
-    job: &Job,
-) -> Result<Option<u64>, Memory>
-    ensures { IfOk result (λ tick. tick ≡ least_above (clock_of store.now.history)
-        (ticks_of (law_of document.now) store.now.history (given job.now))) }
-{
+    pods_wait();
     match job {
         Job::Workflow(workflow) => next_timer(store, workflow),
-        Job::Pod(workflow, node) => next_end(store, document, workflow, node),
+        Job::Pod(_, _, end) => Ok(end_above(store.clock(), *end)),
     }
 }
 
-fn command_tick(command: &Command) -> u64
+pub(crate) fn command_tick(command: &Command) -> u64
     ensures { result ≡ command_tick (command_of command.now) }
 {
     match command {
@@ -132,17 +94,14 @@ fn command_tick(command: &Command) -> u64
 
 // The next tick of the workflows or the pods of these jobs.
 #[tactic(auto, using(crate::proofs::Dues::next_flat))]
-fn next_of<O: Outage>(
-    store: &Store<WfContent, O>,
-    document: &Document,
-    jobs: &[Job],
-) -> Result<Option<u64>, Memory>
-    ensures { IfOk result (λ tick. tick ≡ least_above (clock_of store.now.history)
-        (flat_map (λ j. ticks_of (law_of document.now) store.now.history (given j)) jobs.now)) }
+fn next_of<O: Outage>(store: &Store<WfContent, O>, jobs: &[Job]) -> Result<Option<u64>, Memory>
+    ensures { (D : LawDocument) → AllWait D store.now.history jobs.now → IfOk result (λ tick. tick
+        ≡ least_above (clock_of store.now.history)
+        (flat_map (λ j. ticks_of D store.now.history (given j)) jobs.now)) }
 {
     let mut next = None;
     for job in jobs {
-        next = sooner(next, next_by(store, document, job)?);
+        next = sooner(next, next_by(store, job)?);
     }
     Ok(next)
 }
@@ -165,11 +124,12 @@ pub(crate) fn next_after<O: Outage>(
     document: &Document,
     roster: &Roster,
 ) -> Result<Option<u64>, Memory>
-    ensures { IsOf store.now.history roster.now → IfOk result
+    ensures { IsOf store.now.history roster.now →
+        KnowsEnds (law_of document.now) store.now.history roster.now.pods → IfOk result
         (λ tick. tick ≡ next_tick (law_of document.now) store.now.history) }
 {
-    let workflows = next_of(store, document, roster.workflows.as_slice())?;
-    let pods = next_of(store, document, roster.pods.as_slice())?;
+    let workflows = next_of(store, roster.workflows.as_slice())?;
+    let pods = next_of(store, roster.pods.as_slice())?;
     let said = next_command(store.clock(), document.commands.as_slice());
     Ok(sooner(sooner(workflows, pods), said))
 }
@@ -182,6 +142,6 @@ pub fn next_due<O: Outage>(
     ensures { IfOk result
         (λ tick. tick ≡ next_tick (law_of document.now) store.now.history) }
 {
-    let roster = Roster::of(store.entries().allocator(), store)?;
+    let roster = Roster::of(store.entries().allocator(), store, document)?;
     next_after(store, document, &roster)
 }

@@ -4,6 +4,7 @@
 mod due;
 mod end;
 mod jobs;
+mod resting;
 mod roster;
 mod round;
 mod submit;

@@ -11,13 +11,15 @@ ghost use Rattle.run_laws.specs.Rounds.{JobsDone, full_by, is_failed};
 ghost use Rattle.wf_object.specs.Documents.{law_of};
 ghost use Rattle.object_store.specs.Stored.{most_faults};
 ghost use Rattle.sim_schedule.specs.declared.end.RunEnd.TheVariants.{StoreFault};
-ghost use Rattle.sim_schedule.specs.Inside.Jobs.{given, told};
+ghost use Rattle.sim_schedule.specs.Inside.Jobs.{given, told, KnowsEnd, KnowsEnds};
 ghost use Rattle.sim_schedule.specs.Sweeping.{GoesOn};
 ghost use Rattle.sim_schedule.specs.Inside.Turns.{NamesNone};
+ghost use Rattle.sim_schedule.specs.Inside.Restings.{KnowsRest};
 ghost use Rattle.sim_schedule.specs.Inside.Rosters.{IsOf, Follows};
 
 use crate::RunEnd;
 use crate::jobs::Job;
+use crate::resting::Resting;
 use crate::roster::Roster;
 use crate::submit::MOST_FAULTS;
 use base_types::{Memory, Names, Text, TryCopy};
@@ -25,6 +27,7 @@ use io_edge::Outage;
 use object_store::Store;
 use pod_runner::{RunFault, run_pod};
 use reconcile_core::{ReconcileFault, reconcile};
+use rest_laws::laws::{pods_wait, workflows_rest};
 use run_laws::laws::{never_moved, rounds_are_done};
 use std::alloc::Global;
 use store_client::MemClient;
@@ -112,8 +115,40 @@ fn do_job<O: Outage>(
 {
     match job {
         Job::Workflow(workflow) => work(alloc, store, document, workflow),
-        Job::Pod(workflow, node) => run(alloc, store, document, workflow, node),
+        Job::Pod(workflow, node, _) => run(alloc, store, document, workflow, node),
     }
+}
+
+// Does a job, or passes it where it would find nothing to do.
+fn do_or_pass<O: Outage>(
+    alloc: Global,
+    store: &mut Store<WfContent, O>,
+    document: &Document,
+    resting: &mut Resting,
+    job: &Job,
+) -> Result<JobEnd, Memory>
+    requires valid { HasValidWorkflows (law_of document.now) }
+    requires resting { KnowsRest (law_of document.now) store.old.history resting.old }
+    requires ends { IsLawful (law_of document.now) store.old.history →
+        KnowsEnd (law_of document.now) store.old.history job.now }
+    ensures on { GoesOn (law_of document.now) store.old.history store.new.history }
+    ensures ran { IsLawful (law_of document.now) store.old.history → IfOk result (λ end.
+        Ran (law_of document.now) store.old.history (given job.now) (told end) store.new.history) }
+    ensures resting { OnOk result (KnowsRest (law_of document.now) store.new.history resting.new) }
+{
+    workflows_rest();
+    resting.follow(store, document);
+    if resting.passes(store, job) {
+        return Ok(JobEnd::Went);
+    }
+    let entries = store.len();
+    let end = do_job(alloc, store, document, job)?;
+    if let JobEnd::Went = end {
+        if store.len() == entries {
+            resting.note(store, job)?;
+        }
+    }
+    Ok(end)
 }
 
 /// What a round left besides the store.
@@ -158,19 +193,24 @@ impl Round {
         alloc: Global,
         store: &mut Store<WfContent, O>,
         document: &Document,
+        resting: &mut Resting,
         job: &Job,
     ) -> Result<(), RunEnd>
         requires valid { HasValidWorkflows (law_of document.now) }
+        requires resting { KnowsRest (law_of document.now) store.old.history resting.old }
+        requires ends { IsLawful (law_of document.now) store.old.history →
+            KnowsEnd (law_of document.now) store.old.history job.now }
         ensures on { GoesOn (law_of document.now) store.old.history store.new.history }
         ensures done { (start : Story) (jobs : List Given) → IsLawful (law_of document.now) store.old.history →
             JobsDone (law_of document.now) start jobs store.old.history self.old.full self.old.failed →
             OnOk result (JobsDone (law_of document.now) start (jobs ++ given job.now ∷ [])
             store.new.history self.new.full self.new.failed) }
+        ensures resting { OnOk result (KnowsRest (law_of document.now) store.new.history resting.new) }
         ensures fault { result ≡ Err StoreFault → store.new.row ≡ most_faults }
         ensures names { NamesNone result }
     {
         rounds_are_done();
-        let end = do_job(alloc, store, document, job)?;
+        let end = do_or_pass(alloc, store, document, resting, job)?;
         self.note(job, end)?;
         if store.row() == MOST_FAULTS {
             return Err(RunEnd::StoreFault);
@@ -185,19 +225,25 @@ fn do_jobs<O: Outage>(
     store: &mut Store<WfContent, O>,
     document: &Document,
     jobs: &[Job],
+    resting: &mut Resting,
     round: &mut Round,
 ) -> Result<(), RunEnd>
     requires valid { HasValidWorkflows (law_of document.now) }
+    requires resting { KnowsRest (law_of document.now) store.old.history resting.old }
+    requires ends { IsLawful (law_of document.now) store.old.history →
+        KnowsEnds (law_of document.now) store.old.history jobs.now }
     ensures on { GoesOn (law_of document.now) store.old.history store.new.history }
     ensures done { (start : Story) (before : List Given) → IsLawful (law_of document.now) store.old.history →
         JobsDone (law_of document.now) start before store.old.history round.old.full round.old.failed →
         OnOk result (JobsDone (law_of document.now) start (before ++ map given jobs.now)
         store.new.history round.new.full round.new.failed) }
+    ensures resting { OnOk result (KnowsRest (law_of document.now) store.new.history resting.new) }
     ensures fault { result ≡ Err StoreFault → store.new.row ≡ most_faults }
     ensures names { NamesNone result }
 {
+    pods_wait();
     for job in jobs {
-        round.add(alloc, store, document, job)?;
+        round.add(alloc, store, document, resting, job)?;
     }
     Ok(())
 }
@@ -210,27 +256,40 @@ pub(crate) fn do_round<O: Outage>(
     roster: &mut Roster,
 ) -> Result<Round, RunEnd>
     requires valid { HasValidWorkflows (law_of document.now) }
-    requires follows { Follows store.old.history roster.old }
+    requires follows { Follows (law_of document.now) store.old.history roster.old }
+    requires resting { KnowsRest (law_of document.now) store.old.history roster.old.resting }
     ensures on { GoesOn (law_of document.now) store.old.history store.new.history }
     ensures done { IsLawful (law_of document.now) store.old.history → IfOk result (λ round.
         JobsDone (law_of document.now) store.old.history (jobs_of store.old.history)
         store.new.history round.full round.failed) }
     ensures jobs { IsLawful (law_of document.now) store.old.history →
         OnOk result (IsOf store.old.history roster.new) }
-    ensures follows { OnOk result (Follows store.new.history roster.new) }
+    ensures ends { IsLawful (law_of document.now) store.old.history →
+        OnOk result (KnowsEnds (law_of document.now) store.old.history roster.new.pods) }
+    ensures follows { OnOk result (Follows (law_of document.now) store.new.history roster.new) }
+    ensures resting { OnOk result (KnowsRest (law_of document.now) store.new.history roster.new.resting) }
     ensures fault { result ≡ Err StoreFault → store.new.row ≡ most_faults }
     ensures names { NamesNone result }
 {
     rounds_are_done();
-    roster.follow(alloc, store)?;
+    pods_wait();
+    roster.follow(alloc, store, document)?;
     let mut round = Round::new(alloc);
     do_jobs(
         alloc,
         store,
         document,
         roster.workflows.as_slice(),
+        &mut roster.resting,
         &mut round,
     )?;
-    do_jobs(alloc, store, document, roster.pods.as_slice(), &mut round)?;
+    do_jobs(
+        alloc,
+        store,
+        document,
+        roster.pods.as_slice(),
+        &mut roster.resting,
+        &mut round,
+    )?;
     Ok(round)
 }

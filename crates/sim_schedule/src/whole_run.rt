@@ -12,6 +12,7 @@ ghost use Rattle.wf_object.specs.Documents.{law_of};
 ghost use Rattle.sim_schedule.specs.declared.end.RunEnd.TheVariants.{StoreFault};
 ghost use Rattle.sim_schedule.specs.Sweeping.{GoesOn, KeepsPace, SweepGives};
 ghost use Rattle.sim_schedule.specs.Inside.Turns.{NamesNone, TurnGives, EndGives};
+ghost use Rattle.sim_schedule.specs.Inside.Restings.{KnowsRest};
 ghost use Rattle.sim_schedule.specs.Inside.Rosters.{Follows};
 
 use crate::RunEnd;
@@ -73,8 +74,10 @@ fn turn<O: Outage>(
     roster: &mut Roster,
 ) -> Result<Option<Names>, RunEnd>
     requires valid { HasValidWorkflows (law_of document.now) }
-    requires follows { Follows store.old.history roster.old }
-    ensures follows { OnOk result (Follows store.new.history roster.new) }
+    requires follows { Follows (law_of document.now) store.old.history roster.old }
+    requires resting { KnowsRest (law_of document.now) store.old.history roster.old.resting }
+    ensures follows { OnOk result (Follows (law_of document.now) store.new.history roster.new) }
+    ensures resting { OnOk result (KnowsRest (law_of document.now) store.new.history roster.new.resting) }
     ensures on { GoesOn (law_of document.now) store.old.history store.new.history }
     ensures pace { IsLawful (law_of document.now) store.old.history → IfOk result (λ _.
         KeepsPace (law_of document.now) store.old.history store.new.history) }
@@ -113,7 +116,8 @@ fn end_with(full: Names) -> Result<(), RunEnd>
 
 /// Submits the workflows of the document that the store has not, in their order, and does rounds until nothing is due: a
 /// worker's job for each workflow, then a runner's for each pod that has not ended; after a round in which nothing
-/// happened the clock goes to the next tick at which something is due.
+/// happened the clock goes to the next tick at which something is due. A worker's job that would find nothing to do, by
+/// what it found the last time and by the entries since then, is passed.
 ///
 /// StoreFault only where the store's last sixteen calls failed; TooLarge exactly where, at the end, some workflow is full.
 pub fn sweep<O: Outage>(
@@ -129,7 +133,7 @@ pub fn sweep<O: Outage>(
 {
     runs_keep_pace();
     submit_all(alloc, store, document)?;
-    let mut roster = Roster::of(alloc, store)?;
+    let mut roster = Roster::of(alloc, store, document)?;
     // A round is followed by another only where an entry came or a call failed: no memory holds so many.
     'rounds: for _ in 0..u64::MAX {
         if let Some(full) = turn(alloc, store, document, &mut roster)? {

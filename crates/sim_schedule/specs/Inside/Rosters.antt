@@ -8,7 +8,7 @@ use Rattle.next_step.specs.Hands.{Given, for_flow, for_pod}
 use Rattle.next_step.specs.Ticks.{pod_end, timers}
 use Rattle.next_step.specs.Rounds.{submitted_by, created_by}
 use Rattle.sim_schedule.specs.declared.roster.Roster.{Roster}
-use Rattle.sim_schedule.specs.Inside.Jobs.{given}
+use Rattle.sim_schedule.specs.Inside.Jobs.{given, KnowsEnds}
 
 -- they are those of a round that begins with this history
 pub record IsOf (h : Story) (r : Roster) : Type 0 where
@@ -16,12 +16,14 @@ pub record IsOf (h : Story) (r : Roster) : Type 0 where
   pub pods : map given r.pods ≡ filter_map (λ e. created_by h e.entry) h.events
   pub seen : r.seen ≡ length h.events
 
--- They are those of an earlier moment. That a pod which has ended stays so is known of lawful histories alone.
-pub record Follows (h : Story) (r : Roster) : Type 0 where
+-- They are those of an earlier moment. That a pod which has ended stays so, and one before its end has not ended, is known of
+-- lawful histories alone.
+pub record Follows (D : Document) (h : Story) (r : Roster) : Type 0 where
   pub at : Story
   pub later : Extends h at
   pub seen : r.seen ≡ length at.events
-  pub jobs : (D : Document) → IsLawful D at → IsOf at r
+  pub jobs : IsLawful D at → IsOf at r
+  pub ends : IsLawful D at → KnowsEnds D at r.pods
 
 -- the ticks of what a job works on
 abbrev pub ticks_of : Document → Story → Given → List ℕ

@@ -1,8 +1,9 @@
 -- Those among the jobs so far.
-use Rattle.std.proofs.Common.{◌≡◌, map, filter_map, take}
-use Rattle.run_laws.specs.Pods.{still_open}
-use Rattle.sim_schedule.specs.Inside.Jobs.{given}
+use Rattle.law.specs.Documents.{Document}
+use Rattle.law.specs.Justified.{IsLawful}
+use Rattle.sim_schedule.specs.Inside.Jobs.{KnowsEnds, AreLeft}
 use Rattle.sim_schedule.proofs.jobs.unfinished_jobs.Given as goal
 
 abbrev pub invariant-loop-job : goal.invariant-loop-job
-invariant-loop-job g l = map given l.kept ≡ filter_map (λ j. still_open l.store.history (given j)) (take l.job-index l.jobs)
+invariant-loop-job g l =
+    (D : Document) → IsLawful D l.store.history → KnowsEnds D l.store.history l.yielded → AreLeft D l.store.history l.yielded l.left

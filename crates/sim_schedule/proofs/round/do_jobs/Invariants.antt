@@ -7,11 +7,13 @@ use Rattle.run_laws.specs.Rounds.{JobsDone}
 use Rattle.wf_object.specs.Documents.{law_of}
 use Rattle.sim_schedule.specs.Inside.Jobs.{given}
 use Rattle.sim_schedule.specs.Sweeping.{GoesOn}
+use Rattle.sim_schedule.specs.Inside.Restings.{KnowsRest}
 use Rattle.sim_schedule.proofs.round.do_jobs.Given as goal
 
 abbrev pub invariant-loop-job : goal.invariant-loop-job
 invariant-loop-job g l = record {
   on : GoesOn (law_of l.document) l.fn.store.history l.store.history;
+  resting : KnowsRest (law_of l.document) l.store.history l.resting;
   done :
       (start : Story) (before : List Given) → IsLawful (law_of l.document) l.fn.store.history →
       JobsDone (law_of l.document) start before l.fn.store.history l.fn.round.full l.fn.round.failed →

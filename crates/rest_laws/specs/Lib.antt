@@ -1,0 +1,3 @@
+pub mod Rest
+pub mod Pods
+pub use Rattle.run_laws.specs.Whole
