@@ -15,4 +15,4 @@ pub use content::Content;
 pub use refused::StoreRefused;
 pub use snapshot::Snapshot;
 pub use starts::Starts;
-pub use store::Store;
+pub use store::{MOST_FAULTS, Store};

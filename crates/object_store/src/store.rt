@@ -15,8 +15,8 @@ use io_edge::Outage;
 use std::marker::Model;
 use tree_types::{Entries, Entry, Key};
 
-// After so many Faults in a row the store counts as lost.
-const MOST_FAULTS: u64 = 16;
+/// After so many Faults in a row the store counts as lost.
+pub const MOST_FAULTS: u64 = 16;
 
 /// Contracts see its history, how many of its last calls in a row answered Fault, and its outage.
 #[derive(Drop)]

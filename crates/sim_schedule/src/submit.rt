@@ -15,15 +15,12 @@ use crate::RunEnd;
 use base_types::{List, Memory, TryCopy};
 use io_edge::Outage;
 use lawful::additions::submitted_still;
-use object_store::{Snapshot, Store, StoreRefused};
+use object_store::{MOST_FAULTS, Snapshot, Store, StoreRefused};
 use std::alloc::Global;
 use tree_types::{Entry, Key};
 use wf_bundle::Document;
 use wf_check::Valid;
 use wf_object::{WfContent, WfObject};
-
-/// After so many calls in a row that failed a run ends.
-pub(crate) const MOST_FAULTS: u64 = 16;
 
 // Whether a submission is there after this answer; not where the call failed.
 fn is_done(answer: Result<Snapshot<WfContent>, StoreRefused>) -> Result<bool, Memory>

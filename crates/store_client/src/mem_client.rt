@@ -37,6 +37,13 @@ impl<'a, T: Content, O: Outage> MemClient<'a, T, O> {
         self.lag = back;
     }
 
+    /// How many versions back its next get reads.
+    pub fn lag(&self) -> u64
+        ensures { result ≡ self.now.lag }
+    {
+        self.lag
+    }
+
     // The lag of a get, which uses it up.
     fn take_lag(&mut self, key: &Key) -> u64
         ensures taken { result ≡ lag_of key.now self.old.lag }
