@@ -1,2 +1,4 @@
+mod Passes
 mod Seconds
 mod Kept
+mod Schedules

@@ -16,24 +16,14 @@ use Rattle.item_reader.specs.declared.items.Item.TheVariants as item
 use Rattle.bundle_rules.specs.declared.claims.Claim.{Claim}
 use Rattle.bundle_rules.specs.declared.claims.Claim.TheVariants as claim
 use Rattle.bundle_rules.specs.declared.claims.Spot.{Spot}
-use Rattle.bundle_rules.specs.Findings.{Found, refuse}
-use Rattle.bundle_rules.specs.Counts.{workflows_counted}
-use Rattle.bundle_rules.specs.LockLimits.{limits_of}
+use Rattle.bundle_rules.specs.Findings.{refuse}
 use Rattle.bundle_rules.specs.Claims.{same_claim, spot, item_spots, spots, first_second, seconds_asked}
 use Rattle.bundle_rules.specs.Names.{names_asked}
 use Rattle.bundle_rules.specs.Schedules.{schedules_asked}
 use Rattle.wf_bundle.specs.declared.document.Document.{Document}
-use Rattle.wf_bundle.specs.Documents.{items_of, items_checked, limited, whole_asked, workflow_in, document, document_in, document_of}
+use Rattle.wf_bundle.specs.Documents.{whole_asked, workflow_in, document_of}
 use Rattle.run_laws.specs.Submissions.{NamesDiffer}
-
--- ---- what was found where nothing was refused
-
-found_ok : {A B : Type 0} (r : Found A) (f : A → Found B) (y : B) → (r >>= f) ≡ Ok y → (x : A) × (r ≡ Ok x) × (f x ≡ Ok y)
-found_ok (Ok x) f y e = (x, refl, e)
-found_ok (Err refused) f y e = absurd cc
-
-found_is : {A : Type 0} (x y : A) → (let r : Found A = Ok x in r) ≡ Ok y → x ≡ y
-found_is x y e = cc
+use Rattle.document_laws.proofs.Passes.{found_ok, passed}
 
 -- ---- spots
 
@@ -126,16 +116,7 @@ whole_apart xs e =
     let s = found_ok (seconds_asked xs) (λ _. names_asked xs >>= λ _. schedules_asked xs) tt e in
     (apart [] 0 xs s.1).differ
 
-items_apart : (xs : List Item) (D : Document) → document_in xs ≡ Ok D → NamesDiffer D.workflows
-unfolding document_in
-items_apart xs D e =
-    let c = found_ok (items_checked (limited (limits_of xs)) 0 xs) (λ _. whole_asked xs >>= λ _. Ok (document xs)) D e in
-    let w = found_ok (whole_asked xs) (λ _. Ok (document xs)) D c.2 in
-    subst (λ (x : Document). NamesDiffer x.workflows) (found_is (document xs) D w.2) (whole_apart xs w.1)
-
 pub names_differ : (d : Data) (D : Document) → document_of d ≡ Ok D → NamesDiffer D.workflows
-unfolding document_of
 names_differ d D e =
-    let a = found_ok (items_of d) (λ xs. workflows_counted xs >>= λ _. document_in xs) D e in
-    let b = found_ok (workflows_counted a.0) (λ _. document_in a.0) D a.2 in
-    items_apart a.0 D b.2
+    let p = passed d D e in
+    subst (λ (x : Document). NamesDiffer x.workflows) p.is (whole_apart p.items p.whole)

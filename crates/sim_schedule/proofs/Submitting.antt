@@ -26,8 +26,8 @@ use Rattle.wf_bundle.specs.declared.document.Document.{Document as Read}
 use Rattle.wf_object.specs.Documents.{law_of}
 use Rattle.wf_object.specs.Kept.{begins, justified}
 use Rattle.run_laws.specs.Submissions.{submission}
-use Rattle.sim_schedule.specs.Sweeping.{GoesOn, KeepsPace, with_submission, with_submissions, IsOver, Swept, SweepGives}
-use Rattle.sim_schedule.specs.Inside.Turns.{EndGives, NamesNone}
+use Rattle.sim_schedule.specs.Sweeping.{GoesOn, KeepsPace, NamesNone, with_submission, with_submissions, IsOver, Swept, SweepGives}
+use Rattle.sim_schedule.specs.Inside.Turns.{EndGives}
 use Rattle.sim_schedule.specs.declared.end.RunEnd.{RunEnd}
 use Rattle.sim_schedule.specs.declared.end.RunEnd.TheVariants.{StoreFault, TooLarge, Memory as OutOfMemory}
 

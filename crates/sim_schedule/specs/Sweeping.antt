@@ -37,6 +37,13 @@ pub record GoesOn (D : Document) (h g : Story) : Type 0 where
 abbrev pub KeepsPace : Document → Story → Story → Type 0
 KeepsPace D h g = (n : ℕ) → IsPaced D n h → IsPaced D n g
 
+-- a part of a run does not end it for full workflows
+abbrev pub NamesNone : {A : Type 0} → Result A RunEnd → Type 0
+NamesNone (Ok x) = Unit {0}
+NamesNone (Err (TooLarge full)) = ⊥
+NamesNone (Err StoreFault) = Unit {0}
+NamesNone (Err Memory) = Unit {0}
+
 -- ---- the end
 
 -- nothing is due but in these workflows, which are full, and nothing will be at a later tick

@@ -12,4 +12,5 @@ mod whole_run;
 
 pub use due::next_due;
 pub use end::RunEnd;
+pub use submit::submit_all;
 pub use whole_run::sweep;

@@ -1,6 +1,6 @@
 //! A round: a job for each workflow and each pod that has not ended.
 
-ghost use Rattle.std.specs.Prelude.{◌≡◌, ◌∷◌, ◌++◌, ◌||◌, [], List, false, map, Err, IfOk, OnOk};
+ghost use Rattle.std.specs.Prelude.{◌≡◌, ◌≤◌, ◌∷◌, ◌++◌, ◌||◌, [], List, false, map, Err, IfOk, OnOk};
 ghost use Rattle.law.specs.Contents.{Story};
 ghost use Rattle.law.specs.Justified.{IsLawful};
 ghost use Rattle.lawful.specs.Manifests.{HasValidWorkflows};
@@ -12,8 +12,7 @@ ghost use Rattle.wf_object.specs.Documents.{law_of};
 ghost use Rattle.object_store.specs.Stored.{most_faults};
 ghost use Rattle.sim_schedule.specs.declared.end.RunEnd.TheVariants.{StoreFault};
 ghost use Rattle.sim_schedule.specs.Inside.Jobs.{given, told, KnowsEnd, KnowsEnds};
-ghost use Rattle.sim_schedule.specs.Sweeping.{GoesOn};
-ghost use Rattle.sim_schedule.specs.Inside.Turns.{NamesNone};
+ghost use Rattle.sim_schedule.specs.Sweeping.{GoesOn, NamesNone};
 ghost use Rattle.sim_schedule.specs.Inside.Restings.{KnowsRest};
 ghost use Rattle.sim_schedule.specs.Inside.Rosters.{IsOf, Follows};
 
@@ -53,6 +52,7 @@ fn work<O: Outage>(
 ) -> Result<JobEnd, Memory>
     requires valid { HasValidWorkflows (law_of document.now) }
     ensures on { GoesOn (law_of document.now) store.old.history store.new.history }
+    ensures rising { O.faults store.old.outage ≤ O.faults store.new.outage }
     ensures ran { IsLawful (law_of document.now) store.old.history → IfOk result (λ end.
         Ran (law_of document.now) store.old.history (for_flow workflow.now) (told end) store.new.history) }
 {
@@ -82,6 +82,7 @@ fn run<O: Outage>(
 ) -> Result<JobEnd, Memory>
     requires valid { HasValidWorkflows (law_of document.now) }
     ensures on { GoesOn (law_of document.now) store.old.history store.new.history }
+    ensures rising { O.faults store.old.outage ≤ O.faults store.new.outage }
     ensures ran { IsLawful (law_of document.now) store.old.history → IfOk result (λ end.
         Ran (law_of document.now) store.old.history (for_pod workflow.now node.now) (told end) store.new.history) }
 {
@@ -109,6 +110,7 @@ fn do_job<O: Outage>(
 ) -> Result<JobEnd, Memory>
     requires valid { HasValidWorkflows (law_of document.now) }
     ensures on { GoesOn (law_of document.now) store.old.history store.new.history }
+    ensures rising { O.faults store.old.outage ≤ O.faults store.new.outage }
     ensures ran { IsLawful (law_of document.now) store.old.history → IfOk result (λ end.
         Ran (law_of document.now) store.old.history (given job.now) (told end) store.new.history) }
 {
@@ -131,6 +133,7 @@ fn do_or_pass<O: Outage>(
     requires ends { IsLawful (law_of document.now) store.old.history →
         KnowsEnd (law_of document.now) store.old.history job.now }
     ensures on { GoesOn (law_of document.now) store.old.history store.new.history }
+    ensures rising { O.faults store.old.outage ≤ O.faults store.new.outage }
     ensures ran { IsLawful (law_of document.now) store.old.history → IfOk result (λ end.
         Ran (law_of document.now) store.old.history (given job.now) (told end) store.new.history) }
     ensures resting { OnOk result (KnowsRest (law_of document.now) store.new.history resting.new) }
@@ -200,6 +203,7 @@ impl Round {
         requires ends { IsLawful (law_of document.now) store.old.history →
             KnowsEnd (law_of document.now) store.old.history job.now }
         ensures on { GoesOn (law_of document.now) store.old.history store.new.history }
+        ensures rising { O.faults store.old.outage ≤ O.faults store.new.outage }
         ensures done { (start : Story) (jobs : List Given) → IsLawful (law_of document.now) store.old.history →
             JobsDone (law_of document.now) start jobs store.old.history self.old.full self.old.failed →
             OnOk result (JobsDone (law_of document.now) start (jobs ++ given job.now ∷ [])
@@ -232,6 +236,7 @@ fn do_jobs<O: Outage>(
     requires ends { IsLawful (law_of document.now) store.old.history →
         KnowsEnds (law_of document.now) store.old.history jobs.now }
     ensures on { GoesOn (law_of document.now) store.old.history store.new.history }
+    ensures rising { O.faults store.old.outage ≤ O.faults store.new.outage }
     ensures done { (start : Story) (before : List Given) → IsLawful (law_of document.now) store.old.history →
         JobsDone (law_of document.now) start before store.old.history round.old.full round.old.failed →
         OnOk result (JobsDone (law_of document.now) start (before ++ map given jobs.now)
@@ -258,6 +263,7 @@ pub(crate) fn do_round<O: Outage>(
     requires follows { Follows (law_of document.now) store.old.history roster.old }
     requires resting { KnowsRest (law_of document.now) store.old.history roster.old.resting }
     ensures on { GoesOn (law_of document.now) store.old.history store.new.history }
+    ensures rising { O.faults store.old.outage ≤ O.faults store.new.outage }
     ensures done { IsLawful (law_of document.now) store.old.history → IfOk result (λ round.
         JobsDone (law_of document.now) store.old.history (jobs_of store.old.history)
         store.new.history round.full round.failed) }

@@ -1,6 +1,6 @@
 //! A run on this thread.
 
-ghost use Rattle.std.specs.Prelude.{◌≡◌, false, Some, Err, IfOk, OnOk};
+ghost use Rattle.std.specs.Prelude.{◌≡◌, ◌≤◌, false, Some, Err, IfOk, OnOk};
 ghost use Rattle.history.specs.History.{clock_of};
 ghost use Rattle.law.specs.Justified.{IsLawful};
 ghost use Rattle.lawful.specs.Manifests.{HasValidWorkflows};
@@ -10,8 +10,8 @@ ghost use Rattle.next_step.specs.Rounds.{jobs_of};
 ghost use Rattle.run_laws.specs.Rounds.{JobsDone};
 ghost use Rattle.wf_object.specs.Documents.{law_of};
 ghost use Rattle.sim_schedule.specs.declared.end.RunEnd.TheVariants.{StoreFault};
-ghost use Rattle.sim_schedule.specs.Sweeping.{GoesOn, KeepsPace, SweepGives};
-ghost use Rattle.sim_schedule.specs.Inside.Turns.{NamesNone, TurnGives, EndGives};
+ghost use Rattle.sim_schedule.specs.Sweeping.{GoesOn, KeepsPace, NamesNone, SweepGives};
+ghost use Rattle.sim_schedule.specs.Inside.Turns.{TurnGives, EndGives};
 ghost use Rattle.sim_schedule.specs.Inside.Restings.{KnowsRest};
 ghost use Rattle.sim_schedule.specs.Inside.Rosters.{Follows};
 
@@ -53,6 +53,7 @@ fn move_clock<O: Outage>(
 ) -> Result<(), RunEnd>
     requires valid { HasValidWorkflows (law_of document.now) }
     ensures on { GoesOn (law_of document.now) store.old.history store.new.history }
+    ensures rising { O.faults store.old.outage ≤ O.faults store.new.outage }
     ensures pace { next_tick (law_of document.now) store.old.history ≡ Some tick →
         IsLawful (law_of document.now) store.old.history →
         JobsDone (law_of document.now) store.old.history (jobs_of store.old.history)
@@ -79,6 +80,7 @@ fn turn<O: Outage>(
     ensures follows { OnOk result (Follows (law_of document.now) store.new.history roster.new) }
     ensures resting { OnOk result (KnowsRest (law_of document.now) store.new.history roster.new.resting) }
     ensures on { GoesOn (law_of document.now) store.old.history store.new.history }
+    ensures rising { O.faults store.old.outage ≤ O.faults store.new.outage }
     ensures pace { IsLawful (law_of document.now) store.old.history → IfOk result (λ _.
         KeepsPace (law_of document.now) store.old.history store.new.history) }
     ensures over { IsLawful (law_of document.now) store.old.history → IfOk result (λ full.
@@ -127,6 +129,7 @@ pub fn sweep<O: Outage>(
 ) -> Result<(), RunEnd>
     requires valid { HasValidWorkflows (law_of document.now) }
     ensures on { GoesOn (law_of document.now) store.old.history store.new.history }
+    ensures rising { O.faults store.old.outage ≤ O.faults store.new.outage }
     ensures swept { IsLawful (law_of document.now) store.old.history →
         SweepGives (law_of document.now) store.old.history result store.new.history }
     ensures fault { result ≡ Err StoreFault → store.new.row ≡ most_faults }

@@ -3,7 +3,7 @@ use Rattle.std.specs.Prelude.{◌≡◌, ◌≢◌, List, [], Option, Some, None
 use Rattle.law.specs.Documents.{Text, Document}
 use Rattle.law.specs.Contents.{Story}
 use Rattle.sim_schedule.specs.declared.end.RunEnd.{RunEnd}
-use Rattle.sim_schedule.specs.declared.end.RunEnd.TheVariants.{StoreFault, TooLarge, Memory}
+use Rattle.sim_schedule.specs.declared.end.RunEnd.TheVariants.{TooLarge}
 use Rattle.sim_schedule.specs.Sweeping.{IsOver}
 
 -- one round, and what follows it: the run goes on, or it is over but for these workflows
@@ -16,10 +16,3 @@ abbrev pub EndGives : List Text → Result Unit RunEnd → Type 0
 EndGives full (Ok _) = full ≡ []
 EndGives full (Err (TooLarge names)) = (names ≡ full) × (full ≢ [])
 EndGives full (Err _) = ⊥
-
--- a part of a run does not end it for full workflows
-abbrev pub NamesNone : {A : Type 0} → Result A RunEnd → Type 0
-NamesNone (Ok x) = Unit {0}
-NamesNone (Err (TooLarge full)) = ⊥
-NamesNone (Err StoreFault) = Unit {0}
-NamesNone (Err Memory) = Unit {0}

@@ -1,5 +1,5 @@
 -- One job more.
-use Rattle.std.proofs.Common.{◌++◌, map, take, refl}
+use Rattle.std.proofs.Common.{◌++◌, map, take, refl, arith}
 use Rattle.wf_object.specs.Documents.{law_of}
 use Rattle.sim_schedule.specs.Inside.Jobs.{given}
 use Rattle.lawful.proofs.Journals.{lawful_then}
@@ -11,6 +11,7 @@ use Rattle.sim_schedule.proofs.round.do_jobs.Goals as goal
 pub loop-job-init : goal.loop-job-init
 loop-job-init g c = record {
   on = stays (law_of c.args.document.now) c.args.store.now.history c.args.store.now.history refl;
+  rising = omega arith;
   resting = c.requires.resting;
   done = λ start before lawful done. none_yet (law_of c.args.document.now) start before c.args.store.now.history c.args.round.now.full c.args.round.now.failed done;
 }
@@ -26,6 +27,7 @@ add-requires-clause-ends g c = λ lawful.
 pub loop-job-preserved : goal.loop-job-preserved
 loop-job-preserved g c = record {
   on = on (law_of c.args.document.now) c.args.store.now.history c.loop-job.store.history c.add.new.store.history c.loop-job.invariant.on c.add.ensures.on;
+  rising = let before = c.loop-job.invariant.rising in let here = c.add.ensures.rising in omega (arith, before, here);
   resting = c.in_ok-add.ensures.resting;
   done = λ start before lawful done.
       one_more (law_of c.args.document.now) start before c.add.new.store.history c.add.new.self.full c.add.new.self.failed

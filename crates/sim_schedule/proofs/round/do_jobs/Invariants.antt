@@ -1,5 +1,5 @@
 -- The jobs so far are done.
-use Rattle.std.proofs.Common.{List, ◌++◌, map, take}
+use Rattle.std.proofs.Common.{◌≤◌, List, ◌++◌, map, take}
 use Rattle.law.specs.Contents.{Story}
 use Rattle.law.specs.Justified.{IsLawful}
 use Rattle.next_step.specs.Hands.{Given}
@@ -13,6 +13,7 @@ use Rattle.sim_schedule.proofs.round.do_jobs.Given as goal
 abbrev pub invariant-loop-job : goal.invariant-loop-job
 invariant-loop-job g l = record {
   on : GoesOn (law_of l.document) l.fn.store.history l.store.history;
+  rising : g.O.Outage.faults l.fn.store.outage ≤ g.O.Outage.faults l.store.outage;
   resting : KnowsRest (law_of l.document) l.store.history l.resting;
   done :
       (start : Story) (before : List Given) → IsLawful (law_of l.document) l.fn.store.history →

@@ -1,5 +1,5 @@
 -- Round by round, from the submissions on.
-use Rattle.std.proofs.Common.{List, Option, subst}
+use Rattle.std.proofs.Common.{List, Option, subst, arith}
 use Rattle.law.specs.Documents.{Text}
 use Rattle.wf_object.specs.Documents.{law_of}
 use Rattle.sim_schedule.specs.Inside.Turns.{TurnGives}
@@ -16,6 +16,7 @@ rounds-init g c =
       follows = follows_first D h c.in_ok-roster.roster c.in_ok-roster.ensures.jobs c.in_ok-roster.ensures.ends;
       resting = knows_none D h c.in_ok-roster.roster.resting c.in_ok-roster.ensures.resting;
       on = c.submit_all.ensures.on;
+      rising = c.submit_all.ensures.rising;
       kept = λ lawful. kept_first c.runs_keep_pace.ensures D c.args.store.now.history h c.in_ok-submit_all.ensures.done;
     }
 
@@ -30,6 +31,7 @@ rounds-preserved g c = record {
   follows = c.in_ok-full.ensures.follows;
   resting = c.in_ok-full.ensures.resting;
   on = on (law_of c.args.document.now) c.args.store.now.history c.rounds.store.history c.turn.new.store.history c.rounds.invariant.on c.turn.ensures.on;
+  rising = let before = c.rounds.invariant.rising in let here = c.turn.ensures.rising in omega (arith, before, here);
   kept = λ lawful. kept_on (law_of c.args.document.now) c.args.store.now.history c.rounds.store.history c.turn.new.store.history c.turn.ensures.on
       (c.in_ok-full.ensures.pace (c.rounds.invariant.on.lawful lawful)) (c.rounds.invariant.kept lawful);
 }
