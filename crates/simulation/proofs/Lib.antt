@@ -1,0 +1,5 @@
+pub mod Lifting
+pub mod Running
+pub mod Through
+pub mod Plays
+pub mod Following

@@ -1,0 +1,47 @@
+-- The code of a hand, by which contracts tell two of them apart.
+use Rattle.std.specs.Prelude.{◌≡◌, ◌⊎◌, ℕ, List, [], Option, refl}
+use Rattle.std.proofs.Common.{inl, inr}
+use Rattle.std.specs.Coded.{Coded, code_by, coded×, coded⊎, coded_list, coded_option, coded_ℕ}
+use Rattle.law.specs.Documents.{Text}
+use Rattle.law.specs.Contents.{PodObject}
+use Rattle.wf_object.specs.ContentCode.{pod_code}
+use Rattle.next_step.specs.Views.{Seen}
+use Rattle.next_step.specs.Hands.{Given, for_flow, for_pod, Hand}
+use Rattle.worker_job.specs.Jobs.{OneJob}
+use Rattle.worker_job.specs.JobCode.{job_code}
+
+text_code : Coded Text
+text_code = coded_list coded_ℕ
+
+abbrev Names : Type 0
+Names = Text ⊎ (Text × Text)
+
+abbrev names_of : Given → Names
+names_of (for_flow w) = inl w
+names_of (for_pod w name) = inr (w, name)
+
+abbrev given_by : Names → Given
+given_by (inl w) = for_flow w
+given_by (inr p) = for_pod p.0 p.1
+
+given_back : (x : Given) → given_by (names_of x) ≡ x
+given_back (for_flow w) = refl
+given_back (for_pod w name) = refl
+
+given_code : Coded Given
+given_code = code_by Names (coded⊎ text_code (coded× text_code text_code)) names_of given_by given_back
+
+seen_code : Coded (Seen PodObject)
+seen_code =
+    code_by (ℕ × (PodObject × ℕ)) (coded× coded_ℕ (coded× pod_code coded_ℕ)) (λ s. (s.number, (s.content, s.tick)))
+    (λ p. record { number = p.0; content = p.1.0; tick = p.1.1 }) (λ _. refl)
+
+-- the views as those of a job
+abbrev Parts : Type 0
+Parts = List Given × (OneJob × (Option (Seen PodObject) × ℕ))
+
+pub hand_code : Coded Hand
+hand_code =
+    code_by Parts (coded× (coded_list given_code) (coded× job_code (coded× (coded_option seen_code) coded_ℕ)))
+    (λ a. (a.jobs, (record { workflow = []; views = a.views }, (a.pod, a.lag))))
+    (λ p. record { jobs = p.0; views = p.1.0.views; pod = p.1.1.0; lag = p.1.1.1 }) (λ _. refl)

@@ -1,0 +1,3 @@
+-- What speaks only of private code.
+pub mod Hands
+pub mod Steps
