@@ -1,23 +1,36 @@
 -- The submissions of a document over a new store.
-use Rattle.std.proofs.Common.{◌≡◌, ◌∙◌, ℕ, length, List, [], ◌∷◌, ◌++◌, ap, refl, sym, subst, append_assoc, append-nil, Bool, false, Result, Ok, Err}
+use Rattle.std.proofs.Common.{◌≡◌, ◌⊎◌, inl, inr, ◌∙◌, ℕ, length, List, [], ◌∷◌, ◌++◌, ap, refl, sym, subst, append_assoc, append-nil, Bool, false, Result, Ok, Err}
 use Rattle.std.specs.Prelude.{is_some}
 use Rattle.std.proofs.lemmas.List.{length-map}
 use Rattle.wf_manifest.specs.declared.manifest.Manifest.{Manifest}
 use Rattle.history.specs.History.{Extends, grown}
 use Rattle.law.specs.Documents.{Document}
-use Rattle.law.specs.Contents.{Content, Story}
+use Rattle.law.specs.Contents.{Story}
 use Rattle.law.specs.Justified.{IsLawful}
 use Rattle.law.specs.Due.{IsPaced}
 use Rattle.next_step.specs.Rounds.{entries_in}
-use Rattle.object_store.specs.Stored.{Stored, most_faults}
+use Rattle.object_store.specs.Stored.{most_faults}
 use Rattle.run_laws.specs.Submissions.{NamesDiffer, SubmissionsGoWell, begun, submission}
 use Rattle.sim_schedule.specs.Sweeping.{has_workflow, with_submission, with_submissions, GoesOn, Swept, SweepGives}
 use Rattle.sim_schedule.specs.declared.end.RunEnd.{RunEnd}
 use Rattle.sim_schedule.specs.declared.end.RunEnd.TheVariants.{StoreFault, TooLarge, Memory}
 use Rattle.wf_bundle.specs.declared.document.Document.{Document as Read}
 use Rattle.wf_object.specs.Documents.{law_of}
-use Rattle.wf_program.specs.Runs.{Ran}
-use Rattle.wf_program.specs.Inside.Ends.{SweptSo}
+use Rattle.command_words.specs.declared.order.Mode.{Mode}
+use Rattle.command_words.specs.declared.order.Mode.TheVariants as mode
+use Rattle.simulation.specs.Simulating.{Followed, Simulated, SimulationGives}
+use Rattle.wf_program.specs.Runs.{Kept, Ran, RanBySchedule, RanIn}
+use Rattle.wf_program.specs.Inside.Ends.{EndedSo}
+
+-- a mode without a schedule
+abbrev pub Plain : Mode → Type 0
+Plain mode.Simulate = ⊥
+Plain _ = Unit {0}
+
+pub plain_by : (m : Mode) → (m ≡ mode.Run) ⊎ ((m ≡ mode.Check) ⊎ (m ≡ mode.Generate)) → Plain m
+plain_by m (inl is) = subst Plain (sym is) tt
+plain_by m (inr (inl is)) = subst Plain (sym is) tt
+plain_by m (inr (inr is)) = subst Plain (sym is) tt
 
 module _ (go_well : SubmissionsGoWell) (D : Document) where
   by_look : (h : Story) (m : Manifest) (b : Bool) → has_workflow h m ≡ b → b ≡ false → with_submission h m ≡ grown h (submission m)
@@ -39,7 +52,7 @@ module _ (go_well : SubmissionsGoWell) (D : Document) where
 
 -- ---- what a sweep leaves of a new store
 
-lawful_at_first : (D : Document) → IsLawful D (begun D [])
+pub lawful_at_first : (D : Document) → IsLawful D (begun D [])
 lawful_at_first D = record { start = refl; each = tt }
 
 module _ (go_well : SubmissionsGoWell) (D : Document) (differ : NamesDiffer D.workflows) where
@@ -56,15 +69,43 @@ module _ (go_well : SubmissionsGoWell) (D : Document) (differ : NamesDiffer D.wo
         over = swept.over;
       }
 
-pub swept_so : {O : Type 0} → SubmissionsGoWell → (D : Read) (store : Stored Content O) (h : Story) → h ≡ begun (law_of D) [] → NamesDiffer (law_of D).workflows → GoesOn (law_of D) h store.history → (r : Result Unit RunEnd) → (IsLawful (law_of D) h → SweepGives (law_of D) h r store.history) → (r ≡ Err StoreFault → store.row ≡ most_faults) → SweptSo D store r
-swept_so go_well D store h new differ on r swept fault = by r swept fault
-  where
-    first : IsLawful (law_of D) h
-    first = subst (IsLawful (law_of D)) (sym new) (lawful_at_first (law_of D))
+-- by rounds alone
+module _ (go_well : SubmissionsGoWell) (D : Read) (h g : Story) (new : h ≡ begun (law_of D) []) (differ : NamesDiffer (law_of D).workflows) (on : GoesOn (law_of D) h g) where
+  first : IsLawful (law_of D) h
+  first = subst (IsLawful (law_of D)) (sym new) (lawful_at_first (law_of D))
 
-    by : (r : Result Unit RunEnd) → (IsLawful (law_of D) h → SweepGives (law_of D) h r store.history) → (r ≡ Err StoreFault → store.row ≡ most_faults) → SweptSo D store r
-    by (Ok x) swept fault = ran go_well (law_of D) differ h store.history [] new on (swept first)
-    by (Err (TooLarge full)) swept fault =
-        let s = swept first in (ran go_well (law_of D) differ h store.history full new on s.0, s.1)
-    by (Err StoreFault) swept fault = (on.lawful first, fault refl)
-    by (Err Memory) swept fault = on.lawful first
+  begun_by : with_submissions h (law_of D).workflows ≡ begun (law_of D) (law_of D).workflows
+  begun_by = ap (λ k. with_submissions k (law_of D).workflows) new ∙ all_submitted go_well (law_of D) (law_of D).workflows differ
+
+  -- of a store whose last calls in a row that failed are so many, and whose outage has failed so many
+  module _ (row before after : ℕ) where
+    abbrev kept : Kept
+    kept = record { history = g; row = row; faults = after }
+
+    plain : (m : Mode) → Plain m → (full : List (List ℕ)) → Ran (law_of D) g full → RanIn m before D kept full
+    plain mode.Run p full r = r
+    plain mode.Check p full r = r
+    plain mode.Generate p full r = r
+    plain mode.Simulate p full r = absurd p
+
+    pub swept_so : (m : Mode) → Plain m → (r : Result Unit RunEnd) → (IsLawful (law_of D) h → SweepGives (law_of D) h r g) → (r ≡ Err StoreFault → row ≡ most_faults) → EndedSo m before D kept r
+    swept_so m p (Ok x) swept fault = plain m p [] (ran go_well (law_of D) differ h g [] new on (swept first))
+    swept_so m p (Err (TooLarge full)) swept fault = let s = swept first in (plain m p full (ran go_well (law_of D) differ h g full new on s.0), s.1)
+    swept_so m p (Err StoreFault) swept fault = (on.lawful first, fault refl)
+    swept_so m p (Err Memory) swept fault = on.lawful first
+
+    by_schedule : (full : List (List ℕ)) → Simulated (law_of D) D.schedule h before g after full → RanBySchedule D g before after full
+    by_schedule full s = record {
+      lawful = on.lawful first;
+      end = s.end;
+      followed = subst (λ k. Followed (law_of D) D.schedule k before s.end after) begun_by s.followed;
+      later = s.later;
+      paced = s.paced;
+      over = s.over;
+    }
+
+    pub simulated_so : (r : Result Unit RunEnd) → SimulationGives (law_of D) D.schedule h before r g after → (r ≡ Err StoreFault → row ≡ most_faults) → EndedSo mode.Simulate before D kept r
+    simulated_so (Ok x) gives fault = by_schedule [] gives
+    simulated_so (Err (TooLarge full)) gives fault = (by_schedule full gives.0, gives.1)
+    simulated_so (Err StoreFault) gives fault = (on.lawful first, fault refl)
+    simulated_so (Err Memory) gives fault = on.lawful first

@@ -60,9 +60,6 @@ Answers order input status.NotJson text = IsNoJson input × (text ≡ not_json_t
 -- It is a value that breaks a rule. The text is its first refusal.
 Answers order input status.Refused text = (refused : Refused) × IsRefused input refused
     × (text ≡ refused_text refused.item refused.rule refused.field)
--- It is a document whose schedule is to be followed.
-Answers order input status.NotBuilt text = (D : Document) × IsDocument input D × (order.mode ≡ mode.Simulate)
-    × (text ≡ fixed_text status.NotBuilt)
 -- It is a document, of which the number of workflows is asked for.
 Answers order input status.Done text = (D : Document) × IsDocument input D × (order.mode ≡ mode.Check)
     × (text ≡ valid_text D)

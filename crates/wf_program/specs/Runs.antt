@@ -12,8 +12,10 @@ use Rattle.law.specs.Documents as law
 use Rattle.law.specs.Contents.{Story}
 use Rattle.law.specs.Justified.{IsLawful}
 use Rattle.law.specs.Due.{IsPaced}
+use Rattle.next_step.specs.Rounds.{entries_in}
 use Rattle.run_laws.specs.Submissions.{begun}
 use Rattle.sim_schedule.specs.Sweeping.{IsOver}
+use Rattle.simulation.specs.Simulating.{Followed}
 use Rattle.run_texts.specs.declared.shown.Shown.{Shown}
 use Rattle.run_texts.specs.RunTexts.{run_text, too_large_text}
 use Rattle.command_words.specs.declared.order.Mode.{Mode}
@@ -25,7 +27,7 @@ use Rattle.wf_bundle.specs.Documents.{document_of}
 use Rattle.generator.specs.Bundles.{bundle, bundle_text}
 use Rattle.wf_object.specs.Documents.{law_of}
 use Rattle.wf_program.specs.declared.status.Status.{Status}
-use Rattle.wf_program.specs.declared.status.Status.TheVariants.{Done, Usage, ReadFault, WriteFault, NotJson, Refused, StoreFault, TooLarge, Memory, TooLong, NotBuilt}
+use Rattle.wf_program.specs.declared.status.Status.TheVariants.{Done, Usage, ReadFault, WriteFault, NotJson, Refused, StoreFault, TooLarge, Memory, TooLong}
 use Rattle.wf_program.specs.Statuses.{fixed_text}
 use Rattle.wf_program.specs.Answers.{IsDocument, Answers}
 
@@ -39,16 +41,18 @@ pub record Edge : Type 0 where
   pub faults_before : ℕ
   pub faults_after : ℕ
 
--- the store of a run at its end: its history, and how many of its last calls in a row failed
+-- the store of a run at its end: its history, how many of its last calls in a row failed, and how many its outage has failed
 pub record Kept : Type 0 where
   pub history : Story
   pub row : ℕ
+  pub faults : ℕ
 
--- the store is there only where one was made
+-- the store is there only where one was made; the outage had failed so many calls before the run
 pub record Run : Type 0 where
   pub words : List (List ℕ)
   pub source : Edge
   pub sink : Edge
+  pub faults_before : ℕ
   pub store : Option Kept
 
 -- a call failed in this run
@@ -103,12 +107,12 @@ pub record Generates (words : List (List ℕ)) (source : Edge) (order : Order) :
 abbrev pub shown : Bool → Bool → Shown
 shown summary history = record { summary = summary; history = history }
 
--- the document that was read, of which the words say what is shown
-pub record IsRead (words : List (List ℕ)) (source : Edge) (D : Document) (s : Shown) : Type 0 where
+-- the document that was read, of which the words say in which mode it is run and what is shown
+pub record IsRead (words : List (List ℕ)) (source : Edge) (m : Mode) (D : Document) (s : Shown) : Type 0 where
   pub order : Order
   pub input : List ℕ
   pub read : HasReadAll words source order input
-  pub mode : order.mode ≡ mode.Run
+  pub mode : order.mode ≡ m
   pub document : IsDocument input D
   pub shows : s ≡ shown order.summary order.history
 
@@ -120,8 +124,12 @@ pub record IsMade (words : List (List ℕ)) (source : Edge) (D : Document) (s : 
   pub document : document_of (bundle order.seed order.size) ≡ Ok D
   pub shows : s ≡ shown true false
 
-abbrev pub IsToRun : List (List ℕ) → Edge → Document → Shown → Type 0
-IsToRun words source D s = IsRead words source D s ⊎ IsMade words source D s
+-- a document is to be run in this mode
+abbrev pub IsToRun : List (List ℕ) → Edge → Mode → Document → Shown → Type 0
+IsToRun words source mode.Run D s = IsRead words source mode.Run D s
+IsToRun words source mode.Simulate D s = IsRead words source mode.Simulate D s
+IsToRun words source mode.Generate D s = IsMade words source D s
+IsToRun words source mode.Check D s = ⊥
 
 -- ---- a run over a store
 
@@ -133,26 +141,43 @@ pub record Ran (D : law.Document) (h : Story) (full : List (List ℕ)) : Type 0 
   pub paced : IsPaced D 0 h
   pub over : IsOver D h full
 
+-- The same of a run that follows the schedule of the document: behind the submissions each call is the one that its hand makes
+-- next, answered as the store stands then or as the hand's lag has it, and no more calls failed than the outage failed in this
+-- run. Behind the schedule the history keeps the pace.
+pub record RanBySchedule (D : Document) (h : Story) (before after : ℕ) (full : List (List ℕ)) : Type 0 where
+  pub lawful : IsLawful (law_of D) h
+  pub end : Story
+  pub followed : Followed (law_of D) D.schedule (begun (law_of D) (law_of D).workflows) before end after
+  pub later : Extends h end
+  pub paced : IsPaced (law_of D) (entries_in end) h
+  pub over : IsOver (law_of D) h full
+
+-- what is said of a run in a mode, whose outage had failed so many calls before
+abbrev pub RanIn : Mode → ℕ → Document → Kept → List (List ℕ) → Type 0
+RanIn mode.Simulate before D k full = RanBySchedule D k.history before k.faults full
+RanIn _ before D k full = Ran (law_of D) k.history full
+
 -- how such a run ended, by its status
-abbrev pub RunEnds : Document → Shown → Kept → Status → List ℕ → Type 0
+abbrev pub RunEnds : Mode → ℕ → Document → Shown → Kept → Status → List ℕ → Type 0
 -- Nothing is due. The text shows the run.
-RunEnds D s k Done text = Ran (law_of D) k.history [] × (text ≡ run_text s.summary s.history k.history)
+RunEnds m before D s k Done text = RanIn m before D k [] × (text ≡ run_text s.summary s.history k.history)
 -- Nothing is due but in these workflows. The text shows the run, and names them.
-RunEnds D s k TooLarge text = (full : List (List ℕ)) × Ran (law_of D) k.history full × (full ≢ [])
+RunEnds m before D s k TooLarge text = (full : List (List ℕ)) × RanIn m before D k full × (full ≢ [])
     × (text ≡ run_text s.summary s.history k.history ++ too_large_text full)
 -- The last sixteen calls of the store failed. What it keeps is lawful.
-RunEnds D s k StoreFault text =
+RunEnds m before D s k StoreFault text =
     IsLawful (law_of D) k.history × (k.row ≡ most_faults) × (text ≡ fixed_text StoreFault)
 -- Memory was wanting. What the store keeps is lawful.
-RunEnds D s k Memory text = IsLawful (law_of D) k.history × (text ≡ fixed_text Memory)
-RunEnds D s k _ text = ⊥
+RunEnds m before D s k Memory text = IsLawful (law_of D) k.history × (text ≡ fixed_text Memory)
+RunEnds m before D s k _ text = ⊥
 
 -- a store was made of the document that was to be run, and the run ended so
-pub record HasRun (words : List (List ℕ)) (source : Edge) (k : Kept) (status : Status) (text : List ℕ) : Type 0 where
+pub record HasRun (words : List (List ℕ)) (source : Edge) (before : ℕ) (k : Kept) (status : Status) (text : List ℕ) : Type 0 where
+  pub runs_in : Mode
   pub document : Document
   pub shows : Shown
-  pub runs : IsToRun words source document shows
-  pub ends : RunEnds document shows k status text
+  pub runs : IsToRun words source runs_in document shows
+  pub ends : RunEnds runs_in before document shows k status text
 
 -- ---- ends without a store
 
@@ -165,11 +190,9 @@ EndsBefore words source ReadFault text = (order : Order) × (input : List ℕ) �
 -- 10: One byte more was read than an input may have, and no read failed.
 EndsBefore words source TooLong text = (order : Order) × (input : List ℕ) × HasRead words source order input
     × (length input ≡ longest_input + 1) × NoneFailed source × (text ≡ fixed_text TooLong)
--- 5, 6, 20: All was read, and it is the text of no JSON value, or of a value that breaks a rule, or of a document whose
--- schedule is to be followed, which is not built yet.
+-- 5, 6: All was read, and it is the text of no JSON value, or of a value that breaks a rule.
 EndsBefore words source NotJson text = IsAnswered words source NotJson text
 EndsBefore words source Refused text = IsAnswered words source Refused text
-EndsBefore words source NotBuilt text = IsAnswered words source NotBuilt text
 -- 0: All was read, and it is a document, of which the number of workflows is asked for; or nothing was read, and the text is
 -- that of the document that is made by a number.
 EndsBefore words source Done text =
@@ -184,16 +207,16 @@ EndsBefore words source _ text = ⊥
 -- ---- what a run did
 
 -- a run ends without a store, or as its store has run
-abbrev pub Ends : List (List ℕ) → Edge → Option Kept → Status → List ℕ → Type 0
-Ends words source None status text = EndsBefore words source status text
-Ends words source (Some k) status text = HasRun words source k status text
+abbrev pub Ends : List (List ℕ) → Edge → ℕ → Option Kept → Status → List ℕ → Type 0
+Ends words source before None status text = EndsBefore words source status text
+Ends words source before (Some k) status text = HasRun words source before k status text
 
 -- What a run did that answers this status.
 abbrev pub Did : Run → Status → Type 0
 -- 4: It ended with another status, a write failed, and of its text only a start is written.
 Did run WriteFault = (status : Status) × (text : List ℕ) × (count : ℕ)
-    × Ends run.words run.source run.store status text × SomeFailed run.sink
+    × Ends run.words run.source run.faults_before run.store status text × SomeFailed run.sink
     × StoppedAt run.sink.bytes_before run.sink.bytes_after text count
 -- Else it ended with this status, its text is written whole, and no write failed.
-Did run status = (text : List ℕ) × Ends run.words run.source run.store status text
+Did run status = (text : List ℕ) × Ends run.words run.source run.faults_before run.store status text
     × NoneFailed run.sink × Appends run.sink.bytes_before run.sink.bytes_after text

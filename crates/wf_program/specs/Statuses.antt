@@ -1,7 +1,7 @@
 -- The exit status of each end of a run, and its text. All of it is this project's own.
 use Rattle.std.specs.Prelude.{ℕ, List, [], ◌++◌, codes, decimal}
 use Rattle.wf_program.specs.declared.status.Status.{Status}
-use Rattle.wf_program.specs.declared.status.Status.TheVariants.{Done, Usage, ReadFault, WriteFault, NotJson, Refused, StoreFault, TooLarge, Memory, TooLong, NotBuilt}
+use Rattle.wf_program.specs.declared.status.Status.TheVariants.{Done, Usage, ReadFault, WriteFault, NotJson, Refused, StoreFault, TooLarge, Memory, TooLong}
 
 abbrev pub code_of : Status → ℕ
 code_of Done = 0
@@ -14,7 +14,6 @@ code_of StoreFault = 7
 code_of TooLarge = 8
 code_of Memory = 9
 code_of TooLong = 10
-code_of NotBuilt = 20
 
 -- The texts that are the same in every run. Done, NotJson, Refused and TooLarge have a text of their run, and WriteFault
 -- has none.
@@ -24,7 +23,6 @@ fixed_text ReadFault = codes "argo: read fault\n"
 fixed_text StoreFault = codes "argo: store fault\n"
 fixed_text Memory = codes "argo: out of memory\n"
 fixed_text TooLong = codes "argo: input too long\n"
-fixed_text NotBuilt = codes "argo: not built yet\n"
 fixed_text _ = []
 
 -- the text of NotJson, where so many bytes were read

@@ -21,8 +21,8 @@ use wf_bundle::Document;
 pub(crate) enum Asked {
     /// To write this text.
     Told(Made),
-    /// To run this document, and show so much of the run.
-    Run(Document, Shown),
+    /// To run this document in this mode, and show so much of the run.
+    Run(Mode, Document, Shown),
 }
 
 // What an order asks for of a source.

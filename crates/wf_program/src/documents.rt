@@ -14,7 +14,7 @@ use crate::status::Status;
 use crate::texts::{Made, not_json_text, refused_text, valid_text};
 use base_types::Memory;
 use command_words::{Mode, Order};
-use document_laws::laws::{names_differ, workflows_valid};
+use document_laws::laws::{hands_are_there, names_differ, workflows_valid};
 use generated_laws::laws::are_documents;
 use generator::{make_bundle, print_bundle};
 use run_texts::Shown;
@@ -44,14 +44,15 @@ fn of_document(alloc: Global, order: Order, document: Document) -> Result<Asked,
             status: Status::Done,
             text: valid_text(alloc, &document)?,
         })),
-        Mode::Run => Ok(Asked::Run(
+        Mode::Run | Mode::Simulate => Ok(Asked::Run(
+            order.mode,
             document,
             Shown {
                 summary: order.summary,
                 history: order.history,
             },
         )),
-        Mode::Simulate | Mode::Generate => Err(Status::NotBuilt),
+        Mode::Generate => unreachable!(),
     }
 }
 
@@ -62,6 +63,7 @@ fn of_value(alloc: Global, order: Order, value: &Value) -> Result<Asked, Status>
 {
     names_differ();
     workflows_valid();
+    hands_are_there();
     match read_bundle(alloc, value) {
         Ok(document) => of_document(alloc, order, document),
         Err(BundleRefused::Rule { item, rule, field }) => Ok(Asked::Told(Made {
@@ -95,6 +97,7 @@ fn generated(alloc: Global, order: Order) -> Result<Document, Memory>
     are_documents();
     names_differ();
     workflows_valid();
+    hands_are_there();
     let value = make_bundle(alloc, order.seed, order.size)?;
     match read_bundle(alloc, &value) {
         Ok(document) => Ok(document),
@@ -123,6 +126,7 @@ pub(crate) fn of_number(alloc: Global, order: Order) -> Result<Asked, Status>
         }));
     }
     Ok(Asked::Run(
+        Mode::Generate,
         generated(alloc, order)?,
         Shown {
             summary: true,

@@ -1,20 +1,23 @@
 //! The run of a document over a new store.
 
-ghost use Rattle.std.specs.Prelude.{◌≡◌, [], All, IfOk};
+ghost use Rattle.std.specs.Prelude.{◌≡◌, ℕ, [], IfOk};
+ghost use Rattle.command_words.specs.declared.order.Mode.{Mode as ModeSaid};
 ghost use Rattle.run_laws.specs.Submissions.{begun};
 ghost use Rattle.wf_object.specs.Documents.{law_of};
 ghost use Rattle.wf_program.specs.Runs.{RunEnds};
-ghost use Rattle.wf_program.specs.Inside.Ends.{IsSound, SweptSo, kept_of, kept_in, RunLeaves, status_in, text_in};
+ghost use Rattle.wf_program.specs.Inside.Ends.{IsSound, EndedSo, kept_of, kept_in, RunLeaves, status_in, text_in};
 
 use crate::ended::Ended;
 use crate::status::Status;
 use crate::texts::Made;
 use base_types::{Memory, TryCopy};
+use command_words::Mode;
 use io_edge::Outage;
 use object_store::Store;
 use run_laws::laws::submissions_go_well;
 use run_texts::{Shown, run_text, too_large_text};
 use sim_schedule::{RunEnd, sweep};
+use simulation::simulate;
 use std::alloc::Global;
 use wf_bundle::Document;
 use wf_object::{WfContent, starts};
@@ -25,12 +28,12 @@ fn end_of_run<O: Outage>(
     document: &Document,
     store: &Store<WfContent, O>,
     shown: Shown,
-    swept: Result<(), RunEnd>,
+    ended: Result<(), RunEnd>,
 ) -> Result<Made, Status>
-    requires { SweptSo document.now store.now swept }
-    ensures { RunEnds document.now shown (kept_of store.now) (status_in result) (text_in result) }
+    ensures { (mode : ModeSaid) (before : ℕ) → EndedSo mode before document.now (kept_of O.faults store.now) ended →
+        RunEnds mode before document.now shown (kept_of O.faults store.now) (status_in result) (text_in result) }
 {
-    match swept {
+    match ended {
         Ok(()) => Ok(Made {
             status: Status::Done,
             text: run_text(alloc, store, shown)?,
@@ -54,28 +57,48 @@ fn new_store<O: Outage>(
     outage: O,
     document: &Document,
 ) -> Result<Store<WfContent, O>, Memory>
-    ensures { IfOk result (λ store. store.history ≡ begun (law_of document.now) []) }
+    ensures history { IfOk result (λ store. store.history ≡ begun (law_of document.now) []) }
+    ensures outage { IfOk result (λ store. store.outage ≡ outage) }
 {
     let start = starts(alloc, document.limits.copy()?)?;
     Ok(Store::new(outage, start))
 }
 
-/// Runs a document over a new store, which is left in `ended`.
+// Runs a document in a mode over a new store.
+fn run_over<O: Outage>(
+    alloc: Global,
+    mode: Mode,
+    document: &Document,
+    store: &mut Store<WfContent, O>,
+) -> Result<(), RunEnd>
+    requires sound { IsSound document.now }
+    requires new { store.old.history ≡ begun (law_of document.now) [] }
+    ensures { EndedSo mode (O.faults store.old.outage) document.now (kept_of O.faults store.new) result }
+{
+    submissions_go_well();
+    match mode {
+        Mode::Simulate => simulate(alloc, store, document),
+        Mode::Run | Mode::Check | Mode::Generate => sweep(alloc, store, document),
+    }
+}
+
+/// Runs a document in a mode over a new store, which is left in `ended`.
 pub(crate) fn run<O: Outage>(
     alloc: Global,
+    mode: Mode,
     document: &Document,
     shown: Shown,
     outage: O,
     ended: &mut Ended<O>,
 ) -> Result<Made, Status>
     requires { IsSound document.now }
-    ensures { RunLeaves document.now shown (kept_in ended.new.store) (status_in result) (text_in result) }
+    ensures { RunLeaves mode (O.faults outage) document.now shown
+        (kept_in O.faults ended.new.store) (status_in result) (text_in result) }
 {
-    submissions_go_well();
     ended.store = None;
     let mut store = new_store(alloc, outage, document)?;
-    let swept = sweep(alloc, &mut store, document);
-    let made = end_of_run(alloc, document, &store, shown, swept);
+    let end = run_over(alloc, mode, document, &mut store);
+    let made = end_of_run(alloc, document, &store, shown, end);
     ended.store = Some(store);
     made
 }

@@ -28,8 +28,6 @@ pub enum Status {
     Memory,
     /// The input has more than 16,777,216 bytes.
     TooLong,
-    /// What is asked for is not built yet.
-    NotBuilt,
 }
 
 impl Status {
@@ -48,7 +46,6 @@ impl Status {
             Status::TooLarge => 8,
             Status::Memory => 9,
             Status::TooLong => 10,
-            Status::NotBuilt => 20,
         }
     }
 
@@ -67,7 +64,6 @@ impl Status {
             Status::StoreFault => b"argo: store fault\n",
             Status::Memory => b"argo: out of memory\n",
             Status::TooLong => b"argo: input too long\n",
-            Status::NotBuilt => b"argo: not built yet\n",
         }
     }
 }

@@ -27,13 +27,13 @@ fn end_of<S: Source, O: Outage>(
       bytes_after = S.left source.new;
       faults_before = S.faults source.old;
       faults_after = S.faults source.new;
-    }) (kept_in ended.new.store) (status_in result) (text_in result) }
+    }) (O.faults outage) (kept_in O.faults ended.new.store) (status_in result) (text_in result) }
     ensures outage { status_in result ≢ status.Memory → ended.new.store ≡ None →
         ended.new.outage ≡ Some outage }
 {
     *ended = Ended::new();
     match what_is_asked(alloc, words, source) {
-        Ok(Asked::Run(document, shown)) => run(alloc, &document, shown, outage, ended),
+        Ok(Asked::Run(mode, document, shown)) => run(alloc, mode, &document, shown, outage, ended),
         Ok(Asked::Told(made)) => {
             ended.outage = Some(outage);
             Ok(made)
@@ -62,8 +62,8 @@ fn write_end<K: Sink>(sink: &mut K, text: &[u8], status: Status) -> Status
 
 /// Does what the words ask for (those behind the program's name): `check` reads a document from the source and writes how
 /// many workflows it has, or its first refusal; `run` runs its workflows over a new store until nothing is due and writes
-/// their trees, or a summary, and the history where it is asked for; `generate` writes the document of a number, or the
-/// summary of its run.
+/// their trees, or a summary, and the history where it is asked for; `simulate` does so too, but follows the schedule of the
+/// document first; `generate` writes the document of a number, or the summary of its run.
 ///
 /// The status says how the run ended; the text of each status but WriteFault is in the sink, and the store of a run is left
 /// in `ended`, or the outage where no store was made. Over standard input and output, which tell no bytes, the clause speaks
@@ -90,7 +90,8 @@ pub fn argo<S: Source, K: Sink, O: Outage>(
         faults_before = K.faults sink.old;
         faults_after = K.faults sink.new;
       };
-      store = kept_in ended.new.store;
+      faults_before = O.faults outage;
+      store = kept_in O.faults ended.new.store;
     }) result }
     ensures outage { result ≢ status.Memory → result ≢ status.WriteFault → ended.new.store ≡ None →
         ended.new.outage ≡ Some outage }

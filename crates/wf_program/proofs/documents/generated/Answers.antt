@@ -8,6 +8,7 @@ pub returns-in-Ok-clause-sound : goal.returns-in-Ok-clause-sound
 returns-in-Ok-clause-sound c = record {
   valid = c.workflows_valid.ensures c.in-Ok.document c.in-Ok.ensures.valid;
   names = c.names_differ.ensures (data_of c.in_ok-value.value) c.in-Ok.document c.in-Ok.ensures.read;
+  hands = c.hands_are_there.ensures (data_of c.in_ok-value.value) c.in-Ok.document c.in-Ok.ensures.read;
 }
 
 pub unreachable-requires : goal.unreachable-requires

@@ -9,6 +9,7 @@ returns-in-Ok c = inl record {
   sound = record {
     valid = c.workflows_valid.ensures c.in-Ok.document c.in-Ok.ensures.valid;
     names = c.names_differ.ensures (data_of c.args.value.now) c.in-Ok.document c.in-Ok.ensures.read;
+    hands = c.hands_are_there.ensures (data_of c.args.value.now) c.in-Ok.document c.in-Ok.ensures.read;
   };
   reads = c.in-Ok.ensures.read;
   is = c.of_document.ensures;
