@@ -2,7 +2,12 @@ pub mod AtRest
 pub mod Doing
 pub mod Dues
 pub mod Ends
+pub mod Following
 pub mod Later
+pub mod Lifting
 pub mod Listing
+pub mod Plays
 pub mod Rosters
+pub mod Running
 pub mod Submitting
+pub mod Through

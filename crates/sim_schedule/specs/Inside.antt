@@ -4,3 +4,5 @@ pub mod Restings
 pub mod Rosters
 pub mod Jobs
 pub mod Turns
+pub mod Hands
+pub mod Steps

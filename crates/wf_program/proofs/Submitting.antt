@@ -18,7 +18,7 @@ use Rattle.wf_bundle.specs.declared.document.Document.{Document as Read}
 use Rattle.wf_object.specs.Documents.{law_of}
 use Rattle.command_words.specs.declared.order.Mode.{Mode}
 use Rattle.command_words.specs.declared.order.Mode.TheVariants as mode
-use Rattle.simulation.specs.Simulating.{Followed, Simulated, SimulationGives}
+use Rattle.sim_schedule.specs.Simulating.{Followed, Simulated, SimulationGives}
 use Rattle.wf_program.specs.Runs.{Kept, Ran, RanBySchedule, RanIn}
 use Rattle.wf_program.specs.Inside.Ends.{EndedSo}
 

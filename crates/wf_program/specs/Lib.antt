@@ -9,4 +9,4 @@ pub use Rattle.command_words.specs.Orders
 pub use Rattle.wf_bundle.specs.Documents
 pub use Rattle.run_texts.specs.RunTexts
 pub use Rattle.sim_schedule.specs.Sweeping
-pub use Rattle.simulation.specs.Simulating
+pub use Rattle.sim_schedule.specs.Simulating

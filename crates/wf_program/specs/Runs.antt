@@ -15,7 +15,7 @@ use Rattle.law.specs.Due.{IsPaced}
 use Rattle.next_step.specs.Rounds.{entries_in}
 use Rattle.run_laws.specs.Submissions.{begun}
 use Rattle.sim_schedule.specs.Sweeping.{IsOver}
-use Rattle.simulation.specs.Simulating.{Followed}
+use Rattle.sim_schedule.specs.Simulating.{Followed}
 use Rattle.run_texts.specs.declared.shown.Shown.{Shown}
 use Rattle.run_texts.specs.RunTexts.{run_text, too_large_text}
 use Rattle.command_words.specs.declared.order.Mode.{Mode}

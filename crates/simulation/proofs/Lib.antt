@@ -1,5 +1,0 @@
-pub mod Lifting
-pub mod Running
-pub mod Through
-pub mod Plays
-pub mod Following

@@ -1,3 +1,0 @@
--- What speaks only of private code.
-pub mod Hands
-pub mod Steps
