@@ -4,12 +4,16 @@ use Rattle.std.specs.Prelude.{is_some}
 use Rattle.std.proofs.lemmas.List.{length-map}
 use Rattle.wf_manifest.specs.declared.manifest.Manifest.{Manifest}
 use Rattle.history.specs.History.{Extends, grown}
+use Rattle.history.proofs.Extends.{extends_later}
 use Rattle.law.specs.Documents.{Document}
 use Rattle.law.specs.Contents.{Story}
 use Rattle.law.specs.Justified.{IsLawful}
 use Rattle.law.specs.Due.{IsPaced}
+use Rattle.next_laws.specs.Playing.{PlaysLawfully}
+use Rattle.next_step.specs.Plays.{stage}
 use Rattle.next_step.specs.Rounds.{entries_in}
 use Rattle.object_store.specs.Stored.{most_faults}
+use Rattle.plain_laws.specs.PlainTrees.{PlainRunsAsPlanned}
 use Rattle.run_laws.specs.Submissions.{NamesDiffer, SubmissionsGoWell, begun, submission}
 use Rattle.sim_schedule.specs.Sweeping.{has_workflow, with_submission, with_submissions, GoesOn, Swept, SweepGives}
 use Rattle.sim_schedule.specs.declared.end.RunEnd.{RunEnd}
@@ -18,7 +22,7 @@ use Rattle.wf_bundle.specs.declared.document.Document.{Document as Read}
 use Rattle.wf_object.specs.Documents.{law_of}
 use Rattle.command_words.specs.declared.order.Mode.{Mode}
 use Rattle.command_words.specs.declared.order.Mode.TheVariants as mode
-use Rattle.sim_schedule.specs.Simulating.{Followed, Simulated, SimulationGives}
+use Rattle.sim_schedule.specs.Simulating.{steps_of, hands_of, Followed, Simulated, SimulationGives}
 use Rattle.wf_program.specs.Runs.{Kept, Ran, RanBySchedule, RanIn}
 use Rattle.wf_program.specs.Inside.Ends.{EndedSo}
 
@@ -55,22 +59,24 @@ module _ (go_well : SubmissionsGoWell) (D : Document) where
 pub lawful_at_first : (D : Document) → IsLawful D (begun D [])
 lawful_at_first D = record { start = refl; each = tt }
 
-module _ (go_well : SubmissionsGoWell) (D : Document) (differ : NamesDiffer D.workflows) where
+module _ (go_well : SubmissionsGoWell) (plain_runs : PlainRunsAsPlanned) (D : Document) (differ : NamesDiffer D.workflows) where
   ran : (h g : Story) (full : List (List ℕ)) → h ≡ begun D [] → GoesOn D h g → Swept D h g full → Ran D g full
   ran h g full new on swept =
       let all : with_submissions h D.workflows ≡ begun D D.workflows = ap (λ k. with_submissions k D.workflows) new ∙ all_submitted go_well D D.workflows differ in
       let begins : Extends g (begun D D.workflows) = subst (λ k. Extends g k) all swept.later in
       let count : entries_in (begun D D.workflows) ≡ length D.workflows = length-map D.workflows submission in
       let paced : IsPaced D (length D.workflows) g = subst (λ n. IsPaced D n g) (ap entries_in all ∙ count) swept.paced in
+      let lawful : IsLawful D g = on.lawful (subst (IsLawful D) (sym new) (lawful_at_first D)) in
       record {
-        lawful = on.lawful (subst (IsLawful D) (sym new) (lawful_at_first D));
+        lawful = lawful;
         begins = begins;
         paced = go_well.paced D g begins paced;
         over = swept.over;
+        plain = plain_runs D g full differ lawful begins swept.over.quiet swept.over.fulls;
       }
 
 -- by rounds alone
-module _ (go_well : SubmissionsGoWell) (D : Read) (h g : Story) (new : h ≡ begun (law_of D) []) (differ : NamesDiffer (law_of D).workflows) (on : GoesOn (law_of D) h g) where
+module _ (go_well : SubmissionsGoWell) (plain_runs : PlainRunsAsPlanned) (plays : PlaysLawfully) (D : Read) (h g : Story) (new : h ≡ begun (law_of D) []) (differ : NamesDiffer (law_of D).workflows) (on : GoesOn (law_of D) h g) where
   first : IsLawful (law_of D) h
   first = subst (IsLawful (law_of D)) (sym new) (lawful_at_first (law_of D))
 
@@ -89,20 +95,27 @@ module _ (go_well : SubmissionsGoWell) (D : Read) (h g : Story) (new : h ≡ beg
     plain mode.Simulate p full r = absurd p
 
     pub swept_so : (m : Mode) → Plain m → (r : Result Unit RunEnd) → (IsLawful (law_of D) h → SweepGives (law_of D) h r g) → (r ≡ Err StoreFault → row ≡ most_faults) → EndedSo m before D kept r
-    swept_so m p (Ok x) swept fault = plain m p [] (ran go_well (law_of D) differ h g [] new on (swept first))
-    swept_so m p (Err (TooLarge full)) swept fault = let s = swept first in (plain m p full (ran go_well (law_of D) differ h g full new on s.0), s.1)
+    swept_so m p (Ok x) swept fault = plain m p [] (ran go_well plain_runs (law_of D) differ h g [] new on (swept first))
+    swept_so m p (Err (TooLarge full)) swept fault = let s = swept first in (plain m p full (ran go_well plain_runs (law_of D) differ h g full new on s.0), s.1)
     swept_so m p (Err StoreFault) swept fault = (on.lawful first, fault refl)
     swept_so m p (Err Memory) swept fault = on.lawful first
 
     by_schedule : (full : List (List ℕ)) → Simulated (law_of D) D.schedule h before g after full → RanBySchedule D g before after full
-    by_schedule full s = record {
-      lawful = on.lawful first;
-      end = s.end;
-      followed = subst (λ k. Followed (law_of D) D.schedule k before s.end after) begun_by s.followed;
-      later = s.later;
-      paced = s.paced;
-      over = s.over;
-    }
+    by_schedule full s =
+        let lawful : IsLawful (law_of D) g = on.lawful first in
+        let f : Followed (law_of D) D.schedule (begun (law_of D) (law_of D).workflows) before s.end after = subst (λ k. Followed (law_of D) D.schedule k before s.end after) begun_by s.followed in
+        let played = plays.goes_on (law_of D) (stage (begun (law_of D) (law_of D).workflows) (hands_of D.schedule)) (stage s.end f.hands) (steps_of D.schedule) f.notes f.played in
+        let begins : Extends g (begun (law_of D) (law_of D).workflows) = extends_later g s.end (begun (law_of D) (law_of D).workflows) s.later played in
+        record {
+          lawful = lawful;
+          begins = begins;
+          end = s.end;
+          followed = f;
+          later = s.later;
+          paced = s.paced;
+          over = s.over;
+          plain = plain_runs (law_of D) g full differ lawful begins s.over.quiet s.over.fulls;
+        }
 
     pub simulated_so : (r : Result Unit RunEnd) → SimulationGives (law_of D) D.schedule h before r g after → (r ≡ Err StoreFault → row ≡ most_faults) → EndedSo mode.Simulate before D kept r
     simulated_so (Ok x) gives fault = by_schedule [] gives

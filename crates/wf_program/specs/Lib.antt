@@ -6,6 +6,7 @@ pub use Rattle.base_types.specs.Limits
 pub use Rattle.io_edge.specs.Cause
 pub use Rattle.io_edge.specs.Transfer
 pub use Rattle.command_words.specs.Orders
+pub use Rattle.plain_laws.specs.PlainTrees
 pub use Rattle.wf_bundle.specs.Documents
 pub use Rattle.run_texts.specs.RunTexts
 pub use Rattle.sim_schedule.specs.Sweeping

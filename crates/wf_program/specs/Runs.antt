@@ -13,6 +13,7 @@ use Rattle.law.specs.Contents.{Story}
 use Rattle.law.specs.Justified.{IsLawful}
 use Rattle.law.specs.Due.{IsPaced}
 use Rattle.next_step.specs.Rounds.{entries_in}
+use Rattle.plain_laws.specs.PlainTrees.{PlainTrees}
 use Rattle.run_laws.specs.Submissions.{begun}
 use Rattle.sim_schedule.specs.Sweeping.{IsOver}
 use Rattle.sim_schedule.specs.Simulating.{Followed}
@@ -134,23 +135,27 @@ IsToRun words source mode.Check D s = ⊥
 -- ---- a run over a store
 
 -- The run of a document over a new store: its history is lawful, begins with the submissions of the workflows in their order,
--- and keeps the pace; nothing is due at its end, nor at a later tick, but in these workflows, which are full.
+-- and keeps the pace; nothing is due at its end, nor at a later tick, but in these workflows, which are full. Each other workflow
+-- of the document that is plain has the tree that follows from the planned outcomes alone.
 pub record Ran (D : law.Document) (h : Story) (full : List (List ℕ)) : Type 0 where
   pub lawful : IsLawful D h
   pub begins : Extends h (begun D D.workflows)
   pub paced : IsPaced D 0 h
   pub over : IsOver D h full
+  pub plain : PlainTrees D h full
 
 -- The same of a run that follows the schedule of the document: behind the submissions each call is the one that its hand makes
 -- next, answered as the store stands then or as the hand's lag has it, and no more calls failed than the outage failed in this
 -- run. Behind the schedule the history keeps the pace.
 pub record RanBySchedule (D : Document) (h : Story) (before after : ℕ) (full : List (List ℕ)) : Type 0 where
   pub lawful : IsLawful (law_of D) h
+  pub begins : Extends h (begun (law_of D) (law_of D).workflows)
   pub end : Story
   pub followed : Followed (law_of D) D.schedule (begun (law_of D) (law_of D).workflows) before end after
   pub later : Extends h end
   pub paced : IsPaced (law_of D) (entries_in end) h
   pub over : IsOver (law_of D) h full
+  pub plain : PlainTrees (law_of D) h full
 
 -- what is said of a run in a mode, whose outage had failed so many calls before
 abbrev pub RanIn : Mode → ℕ → Document → Kept → List (List ℕ) → Type 0

@@ -13,7 +13,9 @@ use crate::texts::Made;
 use base_types::{Memory, TryCopy};
 use command_words::Mode;
 use io_edge::Outage;
+use next_laws::laws::plays_lawfully;
 use object_store::Store;
+use plain_laws::laws::plain_runs_as_planned;
 use run_laws::laws::submissions_go_well;
 use run_texts::{Shown, run_text, too_large_text};
 use sim_schedule::{RunEnd, simulate, sweep};
@@ -75,6 +77,8 @@ fn run_over<O: Outage>(
     ensures { EndedSo mode (O.faults store.old.outage) document.now (kept_of O.faults store.new) result }
 {
     submissions_go_well();
+    plain_runs_as_planned();
+    plays_lawfully();
     match mode {
         Mode::Simulate => simulate(alloc, store, document),
         Mode::Run | Mode::Check | Mode::Generate => sweep(alloc, store, document),

@@ -10,13 +10,13 @@ pub returns-in-Simulate : goal.returns-in-Simulate
 returns-in-Simulate g c =
     let before = g.O.Outage.faults c.args.store.now.outage in
     subst (λ (m : Mode). EndedSo m before c.args.document.now (kept_of g.O.Outage.faults c.simulate.new.store) c.simulate.result) (sym c.in-Simulate.is)
-    (simulated_so c.submissions_go_well.ensures c.args.document.now c.args.store.now.history c.simulate.new.store.history c.requires.new
+    (simulated_so c.submissions_go_well.ensures c.plain_runs_as_planned.ensures c.plays_lawfully.ensures c.args.document.now c.args.store.now.history c.simulate.new.store.history c.requires.new
     c.requires.sound.names c.simulate.ensures.on c.simulate.new.store.row before (g.O.Outage.faults c.simulate.new.store.outage) c.simulate.result
     c.simulate.ensures.simulated c.simulate.ensures.fault)
 
 pub returns-in-Run : goal.returns-in-Run
 returns-in-Run g c =
-    swept_so c.submissions_go_well.ensures c.args.document.now c.args.store.now.history c.sweep.new.store.history c.requires.new
+    swept_so c.submissions_go_well.ensures c.plain_runs_as_planned.ensures c.plays_lawfully.ensures c.args.document.now c.args.store.now.history c.sweep.new.store.history c.requires.new
     c.requires.sound.names c.sweep.ensures.on c.sweep.new.store.row (g.O.Outage.faults c.args.store.now.outage)
     (g.O.Outage.faults c.sweep.new.store.outage) c.args.mode (plain_by c.args.mode c.in-Run.is) c.sweep.result c.sweep.ensures.swept
     c.sweep.ensures.fault
