@@ -17,7 +17,7 @@ fn words(rt: &HostRuntime) -> Result<Names, Memory> {
         Err(_) => return Ok(words),
     };
     for arg in args.skip(1) {
-        words.push(Text::from_string(arg))?;
+        words.push(Text::from_string(arg)?)?;
     }
     Ok(words)
 }

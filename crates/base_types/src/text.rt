@@ -15,11 +15,12 @@ use std::cmp::Ordering;
 use std::fmt;
 use std::hash::{Hash, Hasher};
 use std::marker::Model;
+use std::sync::Arc;
 
-/// UTF-8 that contracts see as the list of its bytes.
+/// UTF-8 that its copies share, and that contracts see as the list of its bytes.
 #[derive(Debug, Drop)]
 pub struct Text {
-    inner: String,
+    inner: Arc<String>,
 }
 
 /// A list of texts.
@@ -28,40 +29,42 @@ pub type Names = List<Text>;
 impl Model for Text {
     ghost Value = { Seq ℕ };
 
-    ghost view = { λ text. string_bytes text.inner };
+    ghost view = { λ text. string_bytes text.inner.value };
 }
 
 impl Text {
-    /// The empty text, which takes no memory.
-    pub fn new(alloc: Global) -> Self
-        ensures { result ≡ [] }
+    /// The empty text.
+    pub fn new(alloc: Global) -> Result<Self, Memory>
+        ensures { IfOk result (λ text. text ≡ []) }
     {
-        Text {
-            inner: String::new(alloc),
-        }
+        Text::from_string(String::new(alloc))
     }
 
     /// A text of the same bytes.
     pub fn from_text(alloc: Global, text: &str) -> Result<Self, Memory>
         ensures { IfOk result (λ copy. copy ≡ text.now) }
     {
-        Ok(Text {
-            inner: String::from_str(alloc, text)?,
-        })
+        Text::from_string(String::from_str(alloc, text)?)
     }
 
     /// The text of a string, whose memory it keeps.
-    pub fn from_string(inner: String) -> Self
-        ensures { result ≡ string_bytes inner }
+    pub fn from_string(string: String) -> Result<Self, Memory>
+        ensures { IfOk result (λ text. text ≡ string_bytes string) }
     {
-        Text { inner }
+        let alloc = *string.allocator();
+        Ok(Text {
+            inner: Arc::new(alloc, string)?,
+        })
     }
 
-    /// The text as a string, with the text's memory.
-    pub fn into_string(self) -> String
-        ensures { string_bytes result ≡ self }
+    /// The text as a string, with the text's memory where no copy shares it.
+    pub fn into_string(self) -> Result<String, Memory>
+        ensures { IfOk result (λ string. string_bytes string ≡ self) }
     {
-        self.inner
+        match Arc::try_unwrap(self.inner) {
+            Ok(string) => Ok(string),
+            Err(shared) => Ok((*shared).clone()?),
+        }
     }
 
     pub fn as_str(&self) -> &str
@@ -87,7 +90,16 @@ impl Text {
         ensures ok { OnOk result (self.new ≡ self.old ++ more.now) }
         ensures err { OnErr result (self.new ≡ self.old) }
     {
-        self.inner.push_str(more)?;
+        match Arc::get_mut(&mut self.inner) {
+            Some(string) => {
+                string.push_str(more)?;
+            }
+            None => {
+                let mut string = String::from_str(self.allocator(), self.as_str())?;
+                string.push_str(more)?;
+                *self = Text::from_string(string)?;
+            }
+        }
         Ok(())
     }
 
@@ -100,7 +112,7 @@ impl Text {
 impl TryCopy for Text {
     fn copy(&self) -> Result<Text, Memory> {
         Ok(Text {
-            inner: self.inner.clone()?,
+            inner: Arc::try_clone(&self.inner)?,
         })
     }
 }
@@ -119,7 +131,7 @@ impl PartialEq for Text {
     ghost laws = { Prim.search (comparing, rules) };
 
     fn eq(&self, other: &Text) -> bool {
-        self.inner.as_str() == other.inner.as_str()
+        self.as_str() == other.as_str()
     }
 }
 
@@ -147,7 +159,7 @@ impl Ord for Text {
     ghost matches_eq = { Prim.search (comparing, rules) };
 
     fn cmp(&self, other: &Text) -> Ordering {
-        self.inner.as_str().cmp(other.inner.as_str())
+        self.as_str().cmp(other.as_str())
     }
 }
 

@@ -81,7 +81,7 @@ fn output_value(outputs: &Outputs, name: &Text) -> Result<Value, Memory>
 fn text_value(text: &Text) -> Result<Value, Memory>
     ensures { IfOk result (λ value. view value ≡ string text.now) }
 {
-    Ok(Value::String(text.copy()?.into_string()))
+    Ok(Value::String(text.copy()?.into_string()?))
 }
 
 fn json_text(alloc: Global, values: Vec<Value>) -> Result<Text, Memory>
@@ -89,5 +89,5 @@ fn json_text(alloc: Global, values: Vec<Value>) -> Result<Text, Memory>
     ensures { IfOk result (λ text. text ≡ compact_text (array (items_view values.items))) }
 {
     let list = Value::Array(values);
-    Ok(Text::from_string(list.to_string(alloc)?))
+    Ok(Text::from_string(list.to_string(alloc)?)?)
 }

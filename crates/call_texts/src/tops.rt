@@ -69,7 +69,7 @@ fn said_or_empty(alloc: Global, text: &TagText, scope: &Scope) -> Result<Text, M
 {
     match said(text, scope) {
         Ok(text) => Ok(text),
-        Err(Halt::Fault(_)) => Ok(Text::new(alloc)),
+        Err(Halt::Fault(_)) => Ok(Text::new(alloc)?),
         Err(Halt::Memory) => Err(Memory),
     }
 }

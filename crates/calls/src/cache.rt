@@ -1,6 +1,6 @@
 //! The cache (`memo_cache`), played from the lines of histories.
 
-use base_types::{Memory, Text, TryCopy};
+use base_types::{Memory, Shared, Text, TryCopy};
 use history_text::{HistoryRefused, read_history};
 use memo_cache::Cache;
 use std::alloc::Global;
@@ -60,10 +60,10 @@ fn play(alloc: Global, saves: &mut Cache, lines: &str) -> Result<u32, HistoryRef
 }
 
 /// The result of outputs, `none` without them.
-fn result_of(outputs: Option<&Outputs>) -> &str {
+fn result_of(outputs: Option<&Shared<Outputs>>) -> &str {
     match outputs {
         None => "none",
-        Some(outputs) => match &outputs.result {
+        Some(outputs) => match &outputs.value().result {
             None => "no result",
             Some(text) => text.as_str(),
         },

@@ -42,7 +42,7 @@ fn facts_of(alloc: Global, lines: &str) -> Result<SharedFacts, HistoryRefused> {
 fn end_of(alloc: Global, facts: &SharedFacts, sels: &Sels) -> Result<Option<(u64, bool)>, Memory> {
     let place = Place {
         sels: sels.copy()?,
-        name: Text::new(alloc),
+        name: Text::new(alloc)?,
         depth: 1,
     };
     Ok(match facts.outcome(&place) {

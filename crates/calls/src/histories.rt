@@ -161,7 +161,10 @@ fn refuses_places(rt: HostRuntime) {
 /// Whether the first of some entries files the own request of the workflow `w`.
 fn is_own_filing(entries: &Entries) -> bool {
     match entries.as_slice().first() {
-        Some(Entry::File { rank, .. }) => rank.own && rank.workflow.as_str() == "w",
+        Some(Entry::File { rank, .. }) => {
+            let rank = rank.value();
+            rank.own && rank.workflow.as_str() == "w"
+        }
         _ => false,
     }
 }

@@ -11,7 +11,7 @@ fn node(alloc: Global) -> Result<Node, Memory> {
     let note = Note::Looking(Text::from_text(alloc, "c")?);
     Ok(Node {
         path: Path {
-            sels: Sels::new(alloc),
+            sels: Sels::new(alloc)?,
         },
         name: Text::from_text(alloc, "n\u{1f}~")?,
         kind: Kind::TaskGroup,

@@ -16,9 +16,9 @@ pub(crate) fn with_byte(text: Text, byte: u8) -> Result<Text, Memory>
     requires { byte < 128 }
     ensures { IfOk result (λ longer. longer ≡ text ++ byte ∷ []) }
 {
-    let mut string = text.into_string();
+    let mut string = text.into_string()?;
     string.push(byte as char)?;
-    Ok(Text::from_string(string))
+    Ok(Text::from_string(string)?)
 }
 
 pub(crate) fn in_name(alloc: Global, byte: u8, name: Text) -> Result<Next<Draft, Inner>, Memory>

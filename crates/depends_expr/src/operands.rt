@@ -21,7 +21,7 @@ impl Operand<Draft> for Inner {
 
     fn begin(alloc: Global, byte: u8) -> Result<Option<Inner>, Memory> {
         if is_name_byte(byte) {
-            Ok(Some(Inner::InName(with_byte(Text::new(alloc), byte)?)))
+            Ok(Some(Inner::InName(with_byte(Text::new(alloc)?, byte)?)))
         } else {
             Ok(None)
         }

@@ -34,7 +34,7 @@ pub(crate) fn read_format(alloc: Global, text: &str) -> Result<Format, FanRefuse
 fn read_front(alloc: Global, text: &str) -> Result<(Text, usize, &str), FanRefused>
     ensures { AfterFront result text.now }
 {
-    let mut before = Text::new(alloc);
+    let mut before = Text::new(alloc)?;
     let mut rest = text;
     loop {
         let Some((plain, behind)) = rest.split_once('%') else {
@@ -56,7 +56,7 @@ fn read_front(alloc: Global, text: &str) -> Result<(Text, usize, &str), FanRefus
 fn read_back(alloc: Global, text: &str) -> Result<Text, FanRefused>
     ensures { AfterBack result text.now }
 {
-    let mut after = Text::new(alloc);
+    let mut after = Text::new(alloc)?;
     let mut rest = text;
     while let Some((plain, behind)) = rest.split_once('%') {
         after.push(plain)?;

@@ -61,7 +61,7 @@ pub(crate) fn said_value(alloc: Global, value: &Value, scope: &Scope) -> Result<
             alloc,
             text.as_str(),
             scope,
-        )?.into_string())),
+        )?.into_string()?)),
         Value::Array(values) => Ok(Value::Array(said_values(alloc, values, scope)?)),
         Value::Object(members) => Ok(Value::Object(said_members(alloc, members, scope)?)),
     }

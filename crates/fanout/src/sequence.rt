@@ -130,7 +130,7 @@ fn number_item(format: &Format, number: i64) -> Result<Json, Memory>
     ensures { IfOk result (λ item. item ≡ string (written (parts_of_shape format.now) number)) }
 {
     let text = write_number(format, number)?;
-    Ok(Json::new(Value::String(text.into_string())))
+    Ok(Json::new(Value::String(text.into_string()?)))
 }
 
 fn number_at(first: i64, down: bool, place: u64) -> i64

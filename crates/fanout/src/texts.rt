@@ -27,7 +27,7 @@ pub fn name_text(alloc: Global, item: &Json) -> Result<Text, Memory>
     ensures { IfOk result (λ text. text ≡ text_in_name item.now) }
 {
     let value = item.value();
-    let mut name = Text::new(alloc);
+    let mut name = Text::new(alloc)?;
     let said = match value.as_object() {
         Some(members) => pairs_text(alloc, members)?,
         None => value_text(alloc, value)?,
@@ -42,7 +42,7 @@ pub(crate) fn value_text(alloc: Global, value: &Value) -> Result<Text, Memory>
 {
     match value.as_str() {
         Some(text) => Text::from_text(alloc, text),
-        None => Ok(Text::from_string(value.to_string(alloc)?)),
+        None => Ok(Text::from_string(value.to_string(alloc)?)?),
     }
 }
 
@@ -51,7 +51,7 @@ fn pairs_text(alloc: Global, members: &Map<String, Value>) -> Result<Text, Memor
     ensures { IfOk result (λ text.
         text ≡ join_with_byte 44 (pair_texts (members_view members.now.entries))) }
 {
-    let mut pairs = Text::new(alloc);
+    let mut pairs = Text::new(alloc)?;
     for (key, value) in members.iter() {
         let said = value_text(alloc, value)?;
         push_pair(&mut pairs, key.as_str(), said.as_str())?;

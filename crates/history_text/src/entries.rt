@@ -136,8 +136,8 @@ pub(crate) fn entry_value(alloc: Global, entry: &Entry) -> Result<Value, Memory>
             workflow,
             node,
             outcome,
-        } => finished(alloc, workflow, node, outcome),
-        Entry::File { lock, key, rank } => filed(alloc, lock, key, rank),
+        } => finished(alloc, workflow, node, outcome.value()),
+        Entry::File { lock, key, rank } => filed(alloc, lock, key, rank.value()),
         Entry::Release { lock, key } => released(alloc, lock, key),
         Entry::Save {
             cache,
@@ -145,7 +145,7 @@ pub(crate) fn entry_value(alloc: Global, entry: &Entry) -> Result<Value, Memory>
             writer,
             outputs,
             tick,
-        } => saved(alloc, cache, key, writer, outputs, *tick),
+        } => saved(alloc, cache, key, writer, outputs.value(), *tick),
         Entry::Tick { to } => Ok(Items::of(alloc, "tick")?.whole(*to)?.into_value()),
     }
 }

@@ -7,7 +7,7 @@ ghost use Rattle.tree_types.specs.declared.fact.Fact.TheVariants as fact;
 ghost use Rattle.history_text.specs.Lines as lines;
 
 use crate::list::Items;
-use base_types::Memory;
+use base_types::{Memory, Shared};
 use serde_json::Value;
 use std::alloc::Global;
 use tree_types::{Fact, Facts, Outcome, Outputs, Path};
@@ -28,12 +28,12 @@ fn ended(alloc: Global, word: &str, path: &Path, outcome: &Outcome) -> Result<Va
     Ok(items.into_value())
 }
 
-fn answered(alloc: Global, path: &Path, answer: &Option<Outputs>) -> Result<Value, Memory>
+fn answered(alloc: Global, path: &Path, answer: &Option<Shared<Outputs>>) -> Result<Value, Memory>
     ensures { IfOk result (λ value. view value ≡ lines.fact_data (fact.Memo path.now answer.now)) }
 {
     let items = Items::of(alloc, "memo")?.path(path)?;
     let items = match answer {
-        Some(outputs) => items.word("hit")?.outputs(outputs)?,
+        Some(outputs) => items.word("hit")?.outputs(outputs.value())?,
         None => items.word("miss")?,
     };
     Ok(items.into_value())
@@ -44,8 +44,8 @@ fn fact_value(alloc: Global, fact: &Fact) -> Result<Value, Memory>
 {
     match fact {
         Fact::Started => Ok(Items::of(alloc, "started")?.into_value()),
-        Fact::Settled(path, outcome) => ended(alloc, "settled", path, outcome),
-        Fact::Carried(path, outcome) => ended(alloc, "carried", path, outcome),
+        Fact::Settled(path, outcome) => ended(alloc, "settled", path, outcome.value()),
+        Fact::Carried(path, outcome) => ended(alloc, "carried", path, outcome.value()),
         Fact::Granted(path) => placed(alloc, "granted", path),
         Fact::Memo(path, answer) => answered(alloc, path, answer),
         Fact::Armed(path, tick) => {

@@ -5,7 +5,7 @@ ghost use Rattle.std.specs.Int.{w32, w64};
 ghost use Rattle.std.specs.List.{AllByRecursion};
 ghost use Rattle.history_text.specs.Readable as readable;
 
-use base_types::Text;
+use base_types::{Shared, Text};
 use tree_types::{
     Entries, Entry, Fact, Facts, HolderKey, Outcome, Outputs, Param, Params, Path, Rank, Sel,
 };
@@ -86,11 +86,11 @@ fn outcome_fits(outcome: &Outcome)
     has_64_bits(outcome.finish);
 }
 
-fn answer_fits(answer: &Option<Outputs>)
+fn answer_fits(answer: &Option<Shared<Outputs>>)
     ensures { IfSome answer.now readable.FitsOutputs }
 {
     if let Some(outputs) = answer {
-        outputs_fit(outputs);
+        outputs_fit(outputs.value());
     }
 }
 
@@ -101,7 +101,7 @@ fn fact_fits(fact: &Fact)
         Fact::Started => {}
         Fact::Settled(path, outcome) | Fact::Carried(path, outcome) => {
             path_fits(path);
-            outcome_fits(outcome);
+            outcome_fits(outcome.value());
         }
         Fact::Memo(path, answer) => {
             path_fits(path);
@@ -182,12 +182,12 @@ pub(crate) fn entry_fits(entry: &Entry)
         } => {
             is_utf8(workflow);
             is_utf8(node);
-            outcome_fits(outcome);
+            outcome_fits(outcome.value());
         }
         Entry::File { lock, key, rank } => {
             is_utf8(&lock.text);
             key_fits(key);
-            rank_fits(rank);
+            rank_fits(rank.value());
         }
         Entry::Release { lock, key } => {
             is_utf8(&lock.text);
@@ -203,7 +203,7 @@ pub(crate) fn entry_fits(entry: &Entry)
             is_utf8(cache);
             is_utf8(key);
             key_fits(writer);
-            outputs_fit(outputs);
+            outputs_fit(outputs.value());
             has_64_bits(*tick);
         }
         Entry::Tick { to } => has_64_bits(*to),

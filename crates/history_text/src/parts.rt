@@ -34,7 +34,7 @@ fn push_numbered(text: &mut Text, letter: &str, number: u32) -> Result<(), Memor
 fn path_text(alloc: Global, path: &Path) -> Result<Text, Memory>
     ensures { IfOk result (λ text. text ≡ lines.path_text path.now.sels) }
 {
-    let mut text = Text::new(alloc);
+    let mut text = Text::new(alloc)?;
     if let [first, further @ ..] = path.sels.as_slice() {
         push_sel(&mut text, *first)?;
         for sel in further {

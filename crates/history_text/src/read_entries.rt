@@ -10,7 +10,7 @@ use crate::read_parts::{
     integer_at, outcome_at, outputs_at, part_at, path_at, text_at, text_or_null_at, whole_at,
     word_at,
 };
-use base_types::TryCopy;
+use base_types::{Shared, TryCopy};
 use serde_json::Value;
 use std::alloc::Global;
 use tree_types::{Entry, HolderKey, LockId, Rank};
@@ -55,10 +55,15 @@ fn rank_of(alloc: Global, key: &HolderKey, part: &Value) -> Result<Rank, Fault>
     })
 }
 
-fn rank_at(alloc: Global, key: &HolderKey, line: &Value, place: usize) -> Result<Rank, Fault>
+fn rank_at(
+    alloc: Global,
+    key: &HolderKey,
+    line: &Value,
+    place: usize,
+) -> Result<Shared<Rank>, Fault>
     ensures { reads.Gives (λ rank. rank) result (reads.rank_at key.now place (view line.now)) }
 {
-    rank_of(alloc, key, part_at(line, place)?)
+    Ok(Shared::new(alloc, rank_of(alloc, key, part_at(line, place)?)?)?)
 }
 
 fn submit_of(alloc: Global, line: &Value) -> Result<Entry, Fault>

@@ -6,11 +6,12 @@ ghost use Rattle.history_text.specs.Inside.Reading as reads;
 
 use crate::fault::Fault;
 use crate::read_parts::{outcome_at, outputs_at, parts_at, path_at, whole_at, word_at};
+use base_types::Shared;
 use serde_json::Value;
 use std::alloc::Global;
 use tree_types::{Fact, Facts, Outputs};
 
-fn answer_of(alloc: Global, word: &str, part: &Value) -> Result<Option<Outputs>, Fault>
+fn answer_of(alloc: Global, word: &str, part: &Value) -> Result<Option<Shared<Outputs>>, Fault>
     ensures { reads.Gives (λ answer. answer) result (reads.answer_of word.now (view part.now)) }
 {
     match word {

@@ -7,7 +7,7 @@ ghost use Rattle.history_text.specs.Inside.Reading as reads;
 use crate::fault::Fault;
 use crate::left::Left;
 use crate::read_path::path_of;
-use base_types::Text;
+use base_types::{Shared, Text};
 use serde_json::Value;
 use std::alloc::Global;
 use tree_types::{Outcome, Outputs, Param, Params, Path, Phase};
@@ -131,10 +131,14 @@ fn outputs_of(alloc: Global, part: &Value) -> Result<Outputs, Fault>
     })
 }
 
-pub(crate) fn outputs_at(alloc: Global, list: &Value, place: usize) -> Result<Outputs, Fault>
+pub(crate) fn outputs_at(
+    alloc: Global,
+    list: &Value,
+    place: usize,
+) -> Result<Shared<Outputs>, Fault>
     ensures { reads.Gives (λ outputs. outputs) result (reads.outputs_at place (view list.now)) }
 {
-    outputs_of(alloc, part_at(list, place)?)
+    Ok(Shared::new(alloc, outputs_of(alloc, part_at(list, place)?)?)?)
 }
 
 fn end_of(word: &str) -> Result<Phase, Fault>
@@ -183,8 +187,12 @@ fn outcome_of(alloc: Global, part: &Value) -> Result<Outcome, Fault>
     outcome_by(phase, left_of(alloc, part)?)
 }
 
-pub(crate) fn outcome_at(alloc: Global, list: &Value, place: usize) -> Result<Outcome, Fault>
+pub(crate) fn outcome_at(
+    alloc: Global,
+    list: &Value,
+    place: usize,
+) -> Result<Shared<Outcome>, Fault>
     ensures { reads.Gives (λ outcome. outcome) result (reads.outcome_at place (view list.now)) }
 {
-    outcome_of(alloc, part_at(list, place)?)
+    Ok(Shared::new(alloc, outcome_of(alloc, part_at(list, place)?)?)?)
 }

@@ -71,7 +71,7 @@ fn sels_of(alloc: Global, parts: &[&str]) -> Result<Sels, Fault>
     ensures { reads.Gives (λ sels. sels) result
         (reads.all_of reads.sel_of (map (λ part. part.now) parts.now)) }
 {
-    let mut sels = Sels::new(alloc);
+    let mut sels = Sels::new(alloc)?;
     for part in parts {
         match sel_of(part) {
             Some(sel) => sels.push(sel)?,
@@ -87,7 +87,7 @@ pub(crate) fn path_of(alloc: Global, text: &str) -> Result<Path, Fault>
 {
     if text.is_empty() {
         return Ok(Path {
-            sels: Sels::new(alloc),
+            sels: Sels::new(alloc)?,
         });
     }
     let parts = parts_of(alloc, text)?;

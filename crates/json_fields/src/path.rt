@@ -1,9 +1,9 @@
 //! Where a field stands in a document.
 
-ghost use Rattle.std.specs.Prelude.{◌≡◌, ℕ, List, [], Some, IfOk};
+ghost use Rattle.std.specs.Prelude.{◌≡◌, ℕ, List, [], Some, IfOk, string_bytes};
 ghost use Rattle.json_fields.specs.Paths.{field_of, member_of, printed};
 
-use base_types::{Memory, Text, TryCopy};
+use base_types::{Memory, TryCopy};
 use std::alloc::Global;
 use std::fmt;
 use std::marker::Model;
@@ -12,13 +12,13 @@ use std::marker::Model;
 /// document is empty, and is printed as `.`. Keys of maps stand in it as they are.
 #[derive(Drop)]
 pub struct FieldPath {
-    text: Text,
+    text: String,
 }
 
 impl Model for FieldPath {
     ghost Value = { List ℕ };
 
-    ghost view = { λ path. path.text };
+    ghost view = { λ path. string_bytes path.text };
 }
 
 impl FieldPath {
@@ -27,7 +27,7 @@ impl FieldPath {
         ensures { result ≡ [] }
     {
         FieldPath {
-            text: Text::new(alloc),
+            text: String::new(alloc),
         }
     }
 
@@ -35,11 +35,11 @@ impl FieldPath {
     pub fn field(&self, name: &str) -> Result<FieldPath, Memory>
         ensures { IfOk result (λ path. path ≡ field_of self.now name.now) }
     {
-        let mut text = self.text.copy()?;
+        let mut text = self.text.clone()?;
         if !self.text.is_empty() {
-            text.push(".")?;
+            text.push_str(".")?;
         }
-        text.push(name)?;
+        text.push_str(name)?;
         Ok(FieldPath { text })
     }
 
@@ -47,12 +47,10 @@ impl FieldPath {
     pub fn member(&self, i: usize) -> Result<FieldPath, Memory>
         ensures { IfOk result (λ path. path ≡ member_of self.now i) }
     {
-        let alloc = self.text.allocator();
+        let alloc = *self.text.allocator();
         let at = self.text.as_str();
         let text = format!(in alloc; "{at}[{i}]")?;
-        Ok(FieldPath {
-            text: Text::from_string(text),
-        })
+        Ok(FieldPath { text })
     }
 
     /// The path as it is printed, but for that of the whole document, which is empty here.
@@ -66,7 +64,7 @@ impl FieldPath {
 impl TryCopy for FieldPath {
     fn copy(&self) -> Result<FieldPath, Memory> {
         Ok(FieldPath {
-            text: self.text.copy()?,
+            text: self.text.clone()?,
         })
     }
 }

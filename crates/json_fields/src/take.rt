@@ -56,9 +56,9 @@ pub fn any_text(alloc: Global, value: &Value) -> Result<Option<FieldText>, Memor
         Value::Bool(false) => Ok(Some(FieldText::from_text(alloc, "false")?)),
         Value::Number(number) => {
             if let Some(n) = number.as_u64() {
-                Ok(Some(FieldText::from_string(format!(in alloc; "{n}")?)))
+                Ok(Some(FieldText::from_string(format!(in alloc; "{n}")?)?))
             } else if let Some(n) = number.as_i64() {
-                Ok(Some(FieldText::from_string(format!(in alloc; "{n}")?)))
+                Ok(Some(FieldText::from_string(format!(in alloc; "{n}")?)?))
             } else {
                 Ok(None)
             }

@@ -7,7 +7,7 @@ ghost use Rattle.memo_cache.specs.Saving.{writer};
 
 use crate::SaveRefused;
 use crate::kept::Kept;
-use base_types::{Memory, Text, TryCopy};
+use base_types::{Memory, Shared, Text, TryCopy};
 use saves::Saved;
 use std::alloc::Global;
 use std::marker::Model;
@@ -49,7 +49,13 @@ impl Cache {
     }
 
     /// The outputs of the last save of a key in a cache, unless at the moment `now` it is older than the greatest age.
-    pub fn look(&self, cache: &Text, key: &Text, now: u64, max_age: Option<u64>) -> Option<&Outputs>
+    pub fn look(
+        &self,
+        cache: &Text,
+        key: &Text,
+        now: u64,
+        max_age: Option<u64>,
+    ) -> Option<&Shared<Outputs>>
         ensures { option_copied result ≡ saves.look self.now cache.now key.now now max_age }
     {
         match self.last_save(cache, key) {
@@ -77,7 +83,7 @@ impl Cache {
         cache: Text,
         key: Text,
         writer: HolderKey,
-        outputs: Outputs,
+        outputs: Shared<Outputs>,
         tick: u64,
     ) -> Result<(), SaveRefused>
         ensures saved { IsErrOf result SaveRefused.Saved

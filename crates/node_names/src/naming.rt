@@ -20,7 +20,7 @@ pub fn child_name(parent: &Text, seg: &Seg) -> Result<Text, Memory>
         Seg::Item(i, text) => format!(in alloc; "{parent}({i}:{text})")?,
         Seg::Attempt(k) => format!(in alloc; "{parent}({k})")?,
     };
-    Ok(Text::from_string(name))
+    Ok(Text::from_string(name)?)
 }
 
 /// Whether a text is the name of a step or task, as a valid manifest has it.

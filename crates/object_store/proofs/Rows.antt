@@ -5,7 +5,7 @@ use Rattle.std.proofs.lemmas.Option.{slice_get_within}
 use Rattle.tree_types.specs.declared.entry.Entry.{Entry}
 use Rattle.object_store.specs.declared.line.Made.{Made}
 use Rattle.object_store.specs.declared.line.Change.{Change}
-use Rattle.object_store.specs.Inside.Rows.{Rows, change, last_start, IsRowed, first_among, first_of, fresh, StandsIn, OneMore, Leads, IsLine, Held}
+use Rattle.object_store.specs.Inside.Rows.{Rows, change, last_start, row_size, IsRowed, first_among, first_of, fresh, StandsIn, OneMore, Leads, IsLine, Held}
 use Rattle.object_store.proofs.Places.{get_at, get_left, get_seam, snoc_cases}
 
 module _ {C : Type 0} where
@@ -29,8 +29,8 @@ module _ {C : Type 0} where
           counted = omega arith;
           first = get_left all (m ∷ []) 0 (first_of r) s.first ∙ ap Some (sym same_first);
           row_before = λ x at.
-              get_at (all ++ m ∷ []) (last_start n - 64) (last_start r - 64) x (omega arith)
-              (get_left all (m ∷ []) (last_start r - 64) x (s.row_before x (sym (ap (λ xs. slice_get xs 1) rows) ∙ at)));
+              get_at (all ++ m ∷ []) (last_start n - row_size) (last_start r - row_size) x (omega arith)
+              (get_left all (m ∷ []) (last_start r - row_size) x (s.row_before x (sym (ap (λ xs. slice_get xs 1) rows) ∙ at)));
           last_row = λ i x at.
               get_at (all ++ m ∷ []) (last_start n + i) (last_start r + i) x (omega arith)
               (in_last all s i x (snoc_cases (r.first ∷ r.later) m i x (sym (ap (λ xs. slice_get xs i) (ap (λ f. f ∷ n.later) first ∙ ap (λ ms. r.first ∷ ms) later)) ∙ at)));
@@ -51,7 +51,7 @@ module _ {C : Type 0} where
           get_at (all ++ m ∷ []) (last_start r + i) (length all) x (omega arith) (get_seam all m ∙ ap Some (sym a.1))
 
   -- a new last row
-  pub rolled : (r n : Rows C) (m : Made C) (c : Change) → length r.later + 1 ≡ 64 → n.rows ≡ take 1 r.rows ++ r.first ∷ [] → n.first ≡ m → n.later ≡ [] → n.changes ≡ r.changes ++ c ∷ [] → OneMore r m c n
+  pub rolled : (r n : Rows C) (m : Made C) (c : Change) → length r.later + 1 ≡ row_size → n.rows ≡ take 1 r.rows ++ r.first ∷ [] → n.first ≡ m → n.later ≡ [] → n.changes ≡ r.changes ++ c ∷ [] → OneMore r m c n
   rolled r n m c full rows first later changes = record {
     stands = λ all s.
         let whole = length-append all (m ∷ []) in
@@ -62,7 +62,7 @@ module _ {C : Type 0} where
           counted = omega arith;
           first = get_left all (m ∷ []) 0 (first_of r) s.first ∙ ap Some (sym same_first);
           row_before = λ x at.
-              get_at (all ++ m ∷ []) (last_start n - 64) (last_start r + 0) x (omega arith)
+              get_at (all ++ m ∷ []) (last_start n - row_size) (last_start r + 0) x (omega arith)
               (get_left all (m ∷ []) (last_start r + 0) x (s.last_row 0 x (second_is r.rows x (sym (ap (λ xs. slice_get xs 1) rows) ∙ at))));
           last_row = λ i x at.
               get_at (all ++ m ∷ []) (last_start n + i) (length all + i) x (omega arith)

@@ -11,7 +11,7 @@ use tree_types::{Entries, Entry};
 // So many versions are a row. The last row is kept whole. An old version of a workflow holds an old tree, so of all rows
 // before it two versions are kept. A reader rarely lags by more than a few versions, so the first of the row before the
 // last is near for it; one that lags further costs the entries since the very first version.
-const ROW: usize = 64;
+const ROW: usize = 16;
 
 /// A version of an object: its content, and the clock when it was made.
 #[derive(Debug, Drop)]

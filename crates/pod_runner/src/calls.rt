@@ -19,7 +19,7 @@ ghost use Rattle.pod_runner.specs.Steps.{IsOfJob, HasPod, of_found, ReadMade, En
 use crate::outcome::{Next, comes_next};
 use crate::runner::PodJob;
 use crate::{RunDone, RunFault};
-use base_types::{Memory, TryCopy};
+use base_types::{Memory, Shared, TryCopy};
 use job_calls::{get, write};
 use next_laws::laws::finishes_still;
 use object_store::{Snapshot, StoreRefused};
@@ -80,7 +80,7 @@ fn key(job: &PodJob) -> Result<Key, Memory>
     Ok(Key::Pod(job.workflow.copy()?, job.node.copy()?))
 }
 
-fn entry(job: &PodJob, outcome: Outcome) -> Result<Entry, Memory>
+fn entry(job: &PodJob, outcome: Shared<Outcome>) -> Result<Entry, Memory>
     ensures { IfOk result
         (λ entry. entry ≡ of_entry.Finish job.now.workflow job.now.node outcome) }
 {
@@ -92,7 +92,7 @@ fn entry(job: &PodJob, outcome: Outcome) -> Result<Entry, Memory>
 }
 
 // The content of a pod with its outcome.
-fn with_outcome(pod: &PodObject, outcome: &Outcome) -> Result<WfContent, Memory>
+fn with_outcome(pod: &PodObject, outcome: &Shared<Outcome>) -> Result<WfContent, Memory>
     ensures { IfOk result (λ content. content ≡ OfPod (finished pod.now outcome.now)) }
 {
     Ok(WfContent::of_pod(pod.finished(outcome.copy()?)?))
@@ -120,7 +120,7 @@ fn finish<C: Client<WfContent>>(
     job: &PodJob,
     seen: &Snapshot<WfContent>,
     pod: &PodObject,
-    outcome: Outcome,
+    outcome: Shared<Outcome>,
     client: &mut C,
     document: &Document,
 ) -> Result<RunDone, RunFault>

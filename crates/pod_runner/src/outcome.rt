@@ -8,8 +8,9 @@ ghost use Rattle.next_step.specs.Runner.{runner_next};
 ghost use Rattle.wf_object.specs.Documents.{law_of, plan_of};
 ghost use Rattle.pod_runner.specs.Inside.{next_told};
 
-use base_types::{Memory, Text, TryCopy};
+use base_types::{Memory, Shared, Text, TryCopy};
 use item_reader::PlannedOutcome;
+use std::alloc::Global;
 use tree_types::Outcome;
 use wf_bundle::Document;
 use wf_object::PodObject;
@@ -17,24 +18,30 @@ use wf_object::PodObject;
 /// The end of a job, or the outcome to be written.
 #[derive(Drop)]
 pub(crate) enum Next {
-    Finish(Outcome),
+    Finish(Shared<Outcome>),
     AlreadyFinished,
     NoOutcome,
     NotDue(u64),
 }
 
 // The planned outcome of a pod that ran from one tick to another.
-fn ended(plan: &PlannedOutcome, begin: u64, finish: u64) -> Result<Outcome, Memory>
+fn ended(
+    alloc: Global,
+    plan: &PlannedOutcome,
+    begin: u64,
+    finish: u64,
+) -> Result<Shared<Outcome>, Memory>
     ensures { IfOk result (λ outcome. outcome ≡ ended_by (plan_of plan.now) begin finish) }
 {
-    Ok(Outcome {
+    let outcome = Outcome {
         phase: plan.phase,
         result: plan.result.copy()?,
         params: plan.params.copy()?,
         transient: plan.transient,
         begin,
         finish,
-    })
+    };
+    Ok(Shared::new(alloc, outcome)?)
 }
 
 /// What comes next with a pod that was read at a tick.
@@ -59,5 +66,5 @@ pub(crate) fn comes_next(
     if due > tick {
         return Ok(Next::NotDue(due));
     }
-    Ok(Next::Finish(ended(plan, pod.begin(), tick)?))
+    Ok(Next::Finish(ended(node.allocator(), plan, pod.begin(), tick)?))
 }

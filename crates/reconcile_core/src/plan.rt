@@ -9,7 +9,7 @@ ghost use Rattle.law.specs.Due as due;
 ghost use Rattle.worker_job.specs.Told.{matter_told, resubmission_told};
 ghost use Rattle.reconcile_core.specs.Plans.{IsNext, IsPlan, Plans};
 
-use base_types::{Memory, Text, TryCopy};
+use base_types::{Memory, Shared, Text, TryCopy};
 use memo_cache::{Cache, SaveRefused};
 use next_laws::laws::act_is_new;
 use sync_locks::{FileRefused, LockBook};
@@ -46,7 +46,7 @@ fn record(job: &Job, fact: &Fact) -> Result<Plan, TreeRefused>
     let version = next_version(seen.version)?;
     let (next, facts) = object.add(fact.copy()?)?;
     Ok(Plan {
-        content: WfContent::of_workflow(next),
+        content: WfContent::of_workflow(next)?,
         change: Entry::Write {
             workflow: job.workflow().copy()?,
             version,
@@ -56,7 +56,12 @@ fn record(job: &Job, fact: &Fact) -> Result<Plan, TreeRefused>
 }
 
 // The book with one request more. Its key is not there.
-fn filed(book: &LockBook, lock: &LockId, key: &HolderKey, rank: &Rank) -> Result<LockBook, Memory>
+fn filed(
+    book: &LockBook,
+    lock: &LockId,
+    key: &HolderKey,
+    rank: &Shared<Rank>,
+) -> Result<LockBook, Memory>
     requires { state_in key.now book.now.requests ≡ None }
     ensures { IfOk result (λ next. next ≡ with_filed lock.now key.now rank.now book.now) }
 {
@@ -69,7 +74,7 @@ fn filed(book: &LockBook, lock: &LockId, key: &HolderKey, rank: &Rank) -> Result
 }
 
 // A request is filed in a copy of the book.
-fn file(job: &Job, lock: &LockId, key: &HolderKey, rank: &Rank) -> Result<Plan, Memory>
+fn file(job: &Job, lock: &LockId, key: &HolderKey, rank: &Shared<Rank>) -> Result<Plan, Memory>
     requires { IsNext job.now.workflow job.now.views (due.file lock.now key.now rank.now) }
     ensures { IfOk result (λ plan. IsPlan job.now.workflow job.now.views
         (due.file lock.now key.now rank.now) plan) }
@@ -82,7 +87,7 @@ fn file(job: &Job, lock: &LockId, key: &HolderKey, rank: &Rank) -> Result<Plan, 
     };
     let next = filed(book, lock, key, rank)?;
     Ok(Plan {
-        content: WfContent::of_locks(next),
+        content: WfContent::of_locks(job.workflow().allocator(), next)?,
         change: Entry::File {
             lock: lock.copy()?,
             key: key.copy()?,
@@ -117,7 +122,7 @@ fn release(job: &Job, lock: &LockId, key: &HolderKey) -> Result<Plan, Memory>
     };
     let next = released(book, key)?;
     Ok(Plan {
-        content: WfContent::of_locks(next),
+        content: WfContent::of_locks(job.workflow().allocator(), next)?,
         change: Entry::Release {
             lock: lock.copy()?,
             key: key.copy()?,
@@ -131,7 +136,7 @@ fn saved(
     cache: &Text,
     key: &Text,
     writer: &HolderKey,
-    outputs: &Outputs,
+    outputs: &Shared<Outputs>,
     tick: u64,
 ) -> Result<Cache, Memory>
     requires { has_saved writer.now saves.now ≡ false }
@@ -171,14 +176,15 @@ fn save(
     let Some(saves) = seen.content.caches() else {
         unreachable!()
     };
-    let next = saved(saves, cache, key, writer, outputs, seen.tick)?;
+    let outputs = Shared::new(job.workflow().allocator(), outputs.copy()?)?;
+    let next = saved(saves, cache, key, writer, &outputs, seen.tick)?;
     Ok(Plan {
-        content: WfContent::of_caches(next),
+        content: WfContent::of_caches(job.workflow().allocator(), next)?,
         change: Entry::Save {
             cache: cache.copy()?,
             key: key.copy()?,
             writer: writer.copy()?,
-            outputs: outputs.copy()?,
+            outputs,
             tick: seen.tick,
         },
     })
@@ -218,7 +224,7 @@ fn resubmit(job: &Job, again: &Resubmission) -> Result<Plan, Memory>
     };
     let (made, facts) = object.resubmitted(again.name.copy()?, again.created, again.memoized)?;
     Ok(Plan {
-        content: WfContent::of_workflow(made),
+        content: WfContent::of_workflow(made)?,
         change: Entry::Submit {
             workflow: again.name.copy()?,
             old: Some(job.workflow().copy()?),

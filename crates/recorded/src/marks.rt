@@ -44,10 +44,11 @@ impl<'a> Marks<'a> {
     {
         match fact {
             Fact::Started => {}
-            Fact::Settled(_, outcome) => self.settled = Some(outcome),
-            Fact::Carried(_, outcome) => self.carried = Some(outcome),
+            Fact::Settled(_, outcome) => self.settled = Some(outcome.value()),
+            Fact::Carried(_, outcome) => self.carried = Some(outcome.value()),
             Fact::Granted(_) => self.granted = true,
-            Fact::Memo(_, answer) => self.memo = Some(answer.as_ref()),
+            Fact::Memo(_, Some(outputs)) => self.memo = Some(Some(outputs.value())),
+            Fact::Memo(_, None) => self.memo = Some(None),
             Fact::Armed(_, tick) => self.armed = Some(*tick),
             Fact::Due(_) => self.due = true,
             Fact::Resumed(_) => self.resumed = true,

@@ -31,7 +31,7 @@ pub fn subst(text: &TagText, scope: &Scope) -> Result<Text, SubstRefused>
     ensures { Tells result (said scope.now text.now) }
 {
     let alloc = scope.allocator();
-    let mut front = Text::new(alloc);
+    let mut front = Text::new(alloc)?;
     for i in 0..text.len() {
         match said_of(scope, text.piece(i)) {
             Ok(more) => front.push(more)?,

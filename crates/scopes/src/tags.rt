@@ -62,7 +62,7 @@ impl Tags {
         ensures ok { OnOk result (HasValuesOf self.new ((tag, value) ∷ self.old)) }
         ensures err { OnErr result (self.new ≡ self.old) }
     {
-        self.tags.insert(tag.into_string(), value)?;
+        self.tags.insert(tag.into_string()?, value)?;
         Ok(())
     }
 

@@ -11,7 +11,7 @@ pub fn settled(fact: &Fact) -> Option<&Outcome>
     ensures { option_copied result ≡ reads.settled fact.now }
 {
     match fact {
-        Fact::Settled(_, outcome) => Some(outcome),
+        Fact::Settled(_, outcome) => Some(outcome.value()),
         _ => None,
     }
 }
@@ -20,7 +20,7 @@ pub fn carried(fact: &Fact) -> Option<&Outcome>
     ensures { option_copied result ≡ reads.carried fact.now }
 {
     match fact {
-        Fact::Carried(_, outcome) => Some(outcome),
+        Fact::Carried(_, outcome) => Some(outcome.value()),
         _ => None,
     }
 }
@@ -29,7 +29,8 @@ pub fn memo(fact: &Fact) -> Option<MemoAnswer<'_>>
     ensures { memo_answered result ≡ reads.memo fact.now }
 {
     match fact {
-        Fact::Memo(_, answer) => Some(answer.as_ref()),
+        Fact::Memo(_, Some(outputs)) => Some(Some(outputs.value())),
+        Fact::Memo(_, None) => Some(None),
         _ => None,
     }
 }

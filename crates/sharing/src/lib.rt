@@ -4,8 +4,7 @@
 mod chunks;
 mod list;
 mod row;
-mod shared;
 
+pub use base_types::Shared;
 pub use list::SharedList;
 pub use row::Row;
-pub use shared::Shared;

@@ -57,7 +57,7 @@ fn submit_once<O: Outage>(
         facts: List::new(alloc),
     };
     let object = WfObject::new(valid.copy()?)?;
-    is_done(store.create(key, WfContent::of_workflow(object), change))
+    is_done(store.create(key, WfContent::of_workflow(object)?, change))
 }
 
 // Submits a workflow, again after each call that failed.

@@ -15,7 +15,7 @@ use Rattle.buckets.specs.Buckets.{buckets}
 use Rattle.sync_locks.specs.declared.asked.Asked.{Asked}
 use Rattle.sync_locks.specs.Inside.Buckets.{bucket_of}
 use Rattle.sync_locks.specs.Inside.Rows.{request_of, requests_in, asked_of}
-use Rattle.sync_locks.specs.Inside.Queues.{overtakes, GoesBefore, Lists, holding_with, waiting_with}
+use Rattle.sync_locks.specs.Inside.Queues.{overtakes, GoesBefore, Lists, waiting_with}
 use Rattle.sync_locks.specs.Inside.Tables.{places_of, IsTabled, IsKept}
 use Rattle.sync_locks.proofs.Stands.{length_in, requests_more, requests_set, asked_at}
 use Rattle.sync_locks.proofs.Tabled.{tabled_added, tabled_none, tabled_set}
@@ -68,11 +68,11 @@ module _ (total : IsTotalOrder rank_cmp) (asked : List Asked) (states : List Loc
 
     pub kept_more :
         (own : ℕ) → own ≡ bucket_of a.key.workflow a.key.path.sels → own < buckets →
-        IsKept (asked ++ a ∷ []) (states ++ s ∷ []) (set table own (places_of own rs ++ length rs ∷ [])) (holding_with s (length rs) holding) (waiting_with s (length rs) turn waiting)
+        IsKept (asked ++ a ∷ []) (states ++ s ∷ []) (set table own (places_of own rs ++ length rs ∷ [])) (cond (is_holding s) (holding ++ length rs ∷ []) holding) (waiting_with s (length rs) turn waiting)
     kept_more own e h = record {
       each_stands = (let x = length-append asked (a ∷ []) in let y = length-append states (s ∷ []) in let z = kept.each_stands in omega arith);
       tabled = tabled_added asked states table a s own e h kept.each_stands kept.tabled;
-      held = subst (Lists is_holding (holding_with s (length rs) holding)) (sym (requests_more asked states a s kept.each_stands)) (held_more (is_holding s) refl);
+      held = subst (Lists is_holding (cond (is_holding s) (holding ++ length rs ∷ []) holding)) (sym (requests_more asked states a s kept.each_stands)) (held_more (is_holding s) refl);
       queued = subst (Lists is_waiting (waiting_with s (length rs) turn waiting)) (sym (requests_more asked states a s kept.each_stands)) (queued_more (is_waiting s) refl);
       in_turn = turn_more (is_waiting s);
     }
@@ -86,7 +86,7 @@ module _ (total : IsTotalOrder rank_cmp) (asked : List Asked) (states : List Loc
       (place : ℕ) → place ≡ length rs → (bucket : List ℕ) → bucket ≡ places_of own rs →
       (asked' : List Asked) → asked' ≡ asked ++ a ∷ [] → (states' : List LockState) → states' ≡ states ++ s ∷ [] →
       (table' : List (List ℕ)) → table' ≡ set table own (bucket ++ place ∷ []) →
-      (holding' : List ℕ) → holding' ≡ holding_with s place holding → (waiting' : List ℕ) → waiting' ≡ waiting_with s place turn waiting →
+      (holding' : List ℕ) → holding' ≡ cond (is_holding s) (holding ++ place ∷ []) holding → (waiting' : List ℕ) → waiting' ≡ waiting_with s place turn waiting →
       IsKept asked' states' table' holding' waiting'
   kept_added ws ws_are turn bound point own e h place place_is bucket bucket_is asked' asked_is states' states_is table' table_is holding' holding_is waiting' waiting_is =
       let long : place ≡ length (requests_in asked states) = place_is ∙ ap (λ (x : List Request). length x) (sym view) in

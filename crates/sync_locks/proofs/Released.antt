@@ -1,9 +1,10 @@
 -- A release, from what the lists of places tell.
 use Rattle.std.proofs.Common.{◌≡◌, ℕ, ◌<◌, ◌==◌, true, false, List, length, get_or, set, eq-eqb, Option, Some, None, option_map, refl, sym, ◌∙◌, ap, ap₂, subst, arith, true≢false}
 use Rattle.std.specs.Prelude.{IsSome, MatchOption, slice_get}
-use Rattle.std.specs.List.{AllWithin, HoldsAt, remove}
+use Rattle.std.specs.List.{AllWithin, HoldsAt, Contains, remove}
 use Rattle.std.specs.Cmp.{IsTotalOrder}
 use Rattle.std.proofs.lemmas.Bool.{eqb-true}
+use Rattle.std.proofs.lemmas.List.{length-map, get_or-map}
 use Rattle.std.proofs.lemmas.Option.{MatchOption-at_some, slice_get_within}
 use Rattle.books.specs.declared.Request.{Request}
 use Rattle.books.specs.declared.LockState.{LockState}
@@ -11,9 +12,11 @@ use Rattle.books.specs.declared.LockState.TheVariants.{Waiting, Holding, Release
 use Rattle.books.specs.Books.{Text, rank_cmp, is_holding, is_waiting, released}
 use Rattle.books.specs.Laws.{passed_on}
 use Rattle.sync_locks.specs.declared.asked.Asked.{Asked}
+use Rattle.sync_locks.specs.declared.holder.Holder.{Holder}
 use Rattle.sync_locks.specs.Inside.Rows.{requests_in, asked_of, state_of}
 use Rattle.sync_locks.specs.Inside.Queues.{is_for}
 use Rattle.sync_locks.specs.Inside.Tables.{IsKept}
+use Rattle.sync_locks.specs.Inside.Holders.{places_in}
 use Rattle.sync_locks.proofs.Stands.{length_in, some_same}
 use Rattle.sync_locks.proofs.Sums.{is_listed, listed_stands}
 use Rattle.sync_locks.proofs.Turns.{none_waits, first_goes}
@@ -35,10 +38,20 @@ lock_is a o r e f = ap (λ (x : Asked). x.lock.text) (same a (asked_of r) (e ∙
     same : (x y : Asked) → Some x ≡ Some y → x ≡ y
     same x y e = cc e
 
--- where a place is in a list
-abbrev Found : ℕ → List ℕ → Option ℕ → Type 0
-Found i xs o =
-    MatchOption o (AllWithin (λ p. (p == i) ≡ false) xs 0 (length xs)) (λ k. (k < length xs) × HoldsAt (λ p. (p == i) ≡ true) xs k)
+-- which of these stands at a place
+abbrev Found : ℕ → List Holder → Option ℕ → Type 0
+Found i hs o =
+    MatchOption o
+    (AllWithin (λ (h : Holder). (h.place == i) ≡ false) hs 0 (length hs))
+    (λ k. (k < length hs) × HoldsAt (λ (h : Holder). (h.place == i) ≡ true) hs k)
+
+-- one that stands at a place
+holder_of : ℕ → Holder
+holder_of i = record { place = i; bucket = 0 }
+
+-- the place of one of them
+place_there : (hs : List Holder) (k i : ℕ) → k < length hs → get_or (places_in hs) k i ≡ (get_or hs k (holder_of i)).place
+place_there hs k i h = get_or-map (λ (x : Holder). x.place) hs k (holder_of i) i h
 
 eqb_same : (x i : ℕ) → (x == i) ≡ true → x ≡ i
 eqb_same x i e = eqb-true x i e
@@ -50,20 +63,26 @@ module _ (asked : List Asked) (states : List LockState) (table : List (List ℕ)
   pub holder_within : i < length rs
   holder_within = subst (λ (x : List Request). i < length x) view (slice_get_within (requests_in asked states) i holder.0 holder.1)
 
-  pub is_found : (xs : List ℕ) (o : Option ℕ) → xs ≡ holding → Found i xs o → IsSome o
-  is_found xs (Some k) e m = refl
-  is_found xs None e m =
-      let at = is_listed is_holding holding (requests_in asked states) kept.held i holder.0 holder.1 (ap is_holding holder.2) in
-      let none = subst (λ (ys : List ℕ). AllWithin (λ p. (p == i) ≡ false) ys 0 (length ys)) e m in
-      absurd (true≢false (sym (eq-eqb (get_or holding at.0 i) i at.2) ∙ none at.0 i (omega arith) at.1))
+  pub is_found : (hs : List Holder) (o : Option ℕ) → places_in hs ≡ holding → Found i hs o → IsSome o
+  is_found hs (Some k) e m = refl
+  is_found hs None e m =
+      let listed = is_listed is_holding holding (requests_in asked states) kept.held i holder.0 holder.1 (ap is_holding holder.2) in
+      let at = subst (λ (ys : List ℕ). Contains ys i) (sym e) listed in
+      let within : at.0 < length hs = subst (λ (n : ℕ). at.0 < n) (length-map hs (λ (h : Holder). h.place)) at.1 in
+      let same = sym (place_there hs at.0 i within) ∙ at.2 in
+      absurd (true≢false (sym (eq-eqb (get_or hs at.0 (holder_of i)).place i same) ∙ m at.0 (holder_of i) (omega arith) within))
 
-  pub found : (xs : List ℕ) (o : Option ℕ) (k : ℕ) → xs ≡ holding → o ≡ Some k → Found i xs o → (k < length holding) × (get_or holding k i ≡ i)
-  found xs o k e f m =
+  pub found : (hs : List Holder) (o : Option ℕ) (k : ℕ) → places_in hs ≡ holding → o ≡ Some k → Found i hs o → (k < length holding) × (get_or holding k i ≡ i)
+  found hs o k e f m =
       subst (λ (ys : List ℕ). (k < length ys) × (get_or ys k i ≡ i)) e
-      (at (MatchOption-at_some (AllWithin (λ p. (p == i) ≡ false) xs 0 (length xs)) (λ k. (k < length xs) × HoldsAt (λ p. (p == i) ≡ true) xs k) k f m))
+      (at
+      (MatchOption-at_some (AllWithin (λ (h : Holder). (h.place == i) ≡ false) hs 0 (length hs)) (λ k. (k < length hs) × HoldsAt (λ (h : Holder). (h.place == i) ≡ true) hs k) k f m))
     where
-      at : (k < length xs) × HoldsAt (λ p. (p == i) ≡ true) xs k → (k < length xs) × (get_or xs k i ≡ i)
-      at x = (x.0, eqb_same (get_or xs k i) i (x.1 i))
+      at : (k < length hs) × HoldsAt (λ (h : Holder). (h.place == i) ≡ true) hs k → (k < length (places_in hs)) × (get_or (places_in hs) k i ≡ i)
+      at x = (
+        subst (λ (n : ℕ). k < n) (sym (length-map hs (λ (h : Holder). h.place))) x.0,
+        place_there hs k i x.0 ∙ eqb_same (get_or hs k (holder_of i)).place i (x.1 (holder_of i)),
+      )
 
   module _ (k : ℕ) (at : (k < length holding) × (get_or holding k i ≡ i)) where
     abbrev middle : List Request

@@ -95,7 +95,7 @@ contains_hit i (x ∷ xs) h = by (x == i) refl (subst (λ n. 1 ≤ n) (sum_by-co
     by true e k ih = (0, (omega arith), eqb-true x i e)
     by false e k ih = beyond (ih (let more : 1 ≤ 0 + sum_by (λ n. cond (n == i) 1 0) xs = k in omega (arith, more)))
 
-pass_there : (test : Request → Bool) (o : Option Request) → passes test o ≡ true → (r : Request) × (o ≡ Some r) × (test r ≡ true)
+pub pass_there : (test : Request → Bool) (o : Option Request) → passes test o ≡ true → (r : Request) × (o ≡ Some r) × (test r ≡ true)
 pass_there test None e = absurd (cc e)
 pass_there test (Some r) e = (r, refl, e)
 

@@ -4,7 +4,7 @@ ghost use Rattle.std.specs.Prelude.{◌≡◌};
 ghost use Rattle.books.specs.Books as books;
 ghost use Rattle.sync_locks.specs.Book.{key_by};
 
-use base_types::Text;
+use base_types::{Shared, Text};
 use tree_types::{HolderKey, LockId, Path, Rank};
 
 // What a key asked for, which never changes.
@@ -12,7 +12,7 @@ use tree_types::{HolderKey, LockId, Path, Rank};
 pub(crate) struct Asked {
     pub lock: LockId,
     pub key: HolderKey,
-    pub rank: Rank,
+    pub rank: Shared<Rank>,
 }
 
 impl Asked {

@@ -4,7 +4,7 @@ use crate::asked::Asked;
 use crate::limit::limit_of;
 use crate::refused::{FileRefused, NotHolding};
 use crate::requests::{Requests, new_state};
-use base_types::{Memory, Text, TryCopy};
+use base_types::{Memory, Shared, Text, TryCopy};
 use books::{LockState, laws};
 use std::marker::Model;
 use std::sync::Arc;
@@ -59,7 +59,12 @@ impl LockBook {
     }
 
     /// Files a request for a lock, which holds at once where the lock has room, and waits else.
-    pub fn file(&mut self, lock: LockId, key: HolderKey, rank: Rank) -> Result<(), FileRefused>
+    pub fn file(
+        &mut self,
+        lock: LockId,
+        key: HolderKey,
+        rank: Shared<Rank>,
+    ) -> Result<(), FileRefused>
         ensures known { IsErrOf result FileRefused.Known ↔ IsSome (state_in key self.old.requests) }
         ensures ok { OnOk result (self.new ≡ with_filed lock key rank self.old) }
         ensures err { OnErr result (self.new ≡ self.old) }

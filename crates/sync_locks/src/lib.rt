@@ -4,6 +4,7 @@
 mod asked;
 mod book;
 mod bucket;
+mod holder;
 mod limit;
 mod queue;
 mod ranking;

@@ -1,4 +1,4 @@
-//! Looks into lists of places: which of them are for a lock, and where a new waiter goes.
+//! Looks into lists of holders and of places: which of them are for a lock, and where a new waiter goes.
 
 ghost use Rattle.std.specs.Prelude.{◌≡◌, ℕ, ◌<◌, ◌≤◌, ◌==◌, true, false, not, length, MatchOption};
 ghost use Rattle.std.specs.List.{AllWithin, HoldsAt, count_by};
@@ -6,7 +6,9 @@ ghost use Rattle.std.specs.List.Sorted.{IsPartitionedBy, IsPartitionPoint};
 ghost use Rattle.sync_locks.specs.Inside.Queues as queues;
 
 use crate::asked::Asked;
+use crate::holder::Holder;
 use crate::ranking::is_before;
+use base_types::Shared;
 use sharing::SharedList;
 use tree_types::{LockId, Rank};
 
@@ -20,13 +22,13 @@ fn is_for(asked: &SharedList<Asked>, place: usize, lock: &LockId) -> bool
     }
 }
 
-// How many of these places are for a lock.
-pub(crate) fn count_for(asked: &SharedList<Asked>, places: &[usize], lock: &LockId) -> u64
-    ensures { result ≡ count_by (queues.is_for lock.now.text asked.now) places.now }
+// How many of these hold a lock.
+pub(crate) fn count_for(asked: &SharedList<Asked>, holders: &[Holder], lock: &LockId) -> u64
+    ensures { result ≡ count_by (λ (h : Holder). queues.is_for lock.now.text asked.now h.place) holders.now }
 {
     let mut count = 0u64;
-    for place in places {
-        if is_for(asked, *place, lock) {
+    for holder in holders {
+        if is_for(asked, holder.place as usize, lock) {
             count += 1;
         }
     }
@@ -34,7 +36,7 @@ pub(crate) fn count_for(asked: &SharedList<Asked>, places: &[usize], lock: &Lock
 }
 
 // Which of these places is the first for a lock.
-pub(crate) fn first_for(asked: &SharedList<Asked>, places: &[usize], lock: &LockId) -> Option<usize>
+pub(crate) fn first_for(asked: &SharedList<Asked>, places: &[u32], lock: &LockId) -> Option<usize>
     ensures { MatchOption result
         (AllWithin (λ p. queues.is_for lock.now.text asked.now p ≡ false) places.now 0 (length places.now))
         (λ turn. (turn < length places.now)
@@ -42,21 +44,21 @@ pub(crate) fn first_for(asked: &SharedList<Asked>, places: &[usize], lock: &Lock
         × AllWithin (λ p. queues.is_for lock.now.text asked.now p ≡ false) places.now 0 turn) }
 {
     for turn in 0..places.len() {
-        if is_for(asked, places[turn], lock) {
+        if is_for(asked, places[turn] as usize, lock) {
             return Some(turn);
         }
     }
     None
 }
 
-// Where among these places one is.
-pub(crate) fn position_of(places: &[usize], place: usize) -> Option<usize>
+// Which of these stands at a place.
+pub(crate) fn position_of(holders: &[Holder], place: usize) -> Option<usize>
     ensures { MatchOption result
-        (AllWithin (λ p. (p == place) ≡ false) places.now 0 (length places.now))
-        (λ i. (i < length places.now) × HoldsAt (λ p. (p == place) ≡ true) places.now i) }
+        (AllWithin (λ (h : Holder). (h.place == place) ≡ false) holders.now 0 (length holders.now))
+        (λ i. (i < length holders.now) × HoldsAt (λ (h : Holder). (h.place == place) ≡ true) holders.now i) }
 {
-    for i in 0..places.len() {
-        if places[i] == place {
+    for i in 0..holders.len() {
+        if holders[i].place as usize == place {
             return Some(i);
         }
     }
@@ -64,25 +66,25 @@ pub(crate) fn position_of(places: &[usize], place: usize) -> Option<usize>
 }
 
 // Whether a rank goes before that of the request at a place.
-fn overtakes(rank: &Rank, asked: &SharedList<Asked>, place: usize) -> bool
+fn overtakes(rank: &Shared<Rank>, asked: &SharedList<Asked>, place: usize) -> bool
     ensures { result ≡ queues.overtakes rank.now asked.now place }
 {
     match asked.get(place) {
         None => false,
-        Some(asked) => is_before(rank, &asked.rank),
+        Some(asked) => is_before(rank.value(), asked.rank.value()),
     }
 }
 
 // The turn of a new waiter, before all that rank behind it.
-pub(crate) fn turn_for(asked: &SharedList<Asked>, places: &[usize], rank: &Rank) -> usize
+pub(crate) fn turn_for(asked: &SharedList<Asked>, places: &[u32], rank: &Shared<Rank>) -> usize
     ensures bound { result ≤ length places.now }
     ensures parted { IsPartitionedBy (λ p. not (queues.overtakes rank.now asked.now p)) places.now
         → IsPartitionPoint (λ p. not (queues.overtakes rank.now asked.now p) ≡ true)
         (λ p. not (queues.overtakes rank.now asked.now p) ≡ false) places.now result }
 {
     places.partition_point(
-        |place: &usize| -> bool
+        |place: &u32| -> bool
             ensures { result ≡ not (queues.overtakes rank.entry.now asked.entry.now place.now) }
-        { !overtakes(rank, asked, *place) },
+        { !overtakes(rank, asked, *place as usize) },
     )
 }

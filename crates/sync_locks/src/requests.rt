@@ -7,12 +7,14 @@ ghost use Rattle.books.specs.Books as books;
 ghost use Rattle.books.specs.Laws as laws;
 ghost use Rattle.buckets.specs.Buckets.{buckets};
 ghost use Rattle.sync_locks.specs.Book.{state_in, is_held, is_of_workflow, has_many_holders, may_hold, key_by, standing_of};
+ghost use Rattle.sync_locks.specs.Inside.Holders.{is_there, holding_with};
 ghost use Rattle.sync_locks.specs.Inside.Queues as queues;
 ghost use Rattle.sync_locks.specs.Inside.Rows as rows;
 ghost use Rattle.sync_locks.specs.Inside.Tables.{places_of};
 
 use crate::asked::Asked;
 use crate::bucket::bucket_of;
+use crate::holder::{Holder, holder_at};
 use crate::queue::{count_for, first_for, position_of, turn_for};
 use base_types::{Memory, Text, TryCopy};
 use books::{LockState, laws};
@@ -28,29 +30,29 @@ const FEW: usize = 32;
 // The places of the requests whose keys belong to one bucket, in order.
 type Bucket = Row<u64>;
 
-// The requests in order of filing, their places by keys, and the places of those that hold a lock, in any order, and of those
-// that wait, in the order in which they go. Copies share what was asked for and the table. The rest are plain lists, so that
-// a release needs no memory.
+// The requests in order of filing, their places by keys, those that hold a lock, in any order, and the places of those that
+// wait, in the order in which they go. Copies share what was asked for and the table. The rest are plain lists, so that a
+// release needs no memory. Each copy moves them, so places take 32 bits there.
 #[derive(Drop)]
 pub(crate) struct Requests {
     asked: SharedList<Asked>,
     states: Vec<LockState>,
     table: SharedList<Bucket>,
-    holding: Vec<usize>,
-    waiting: Vec<usize>,
+    holding: Vec<Holder>,
+    waiting: Vec<u32>,
 }
 
 impl Model for Requests {
     ghost use Rattle.std.specs.Prelude.{List};
     ghost use Rattle.books.specs.declared.Request.{Request};
     ghost use Rattle.sync_locks.specs.Inside.Rows.{requests_in};
-    ghost use Rattle.sync_locks.specs.Inside.Tables.{IsKept};
+    ghost use Rattle.sync_locks.specs.Inside.Holders.{IsStored};
 
     ghost Value = { List Request };
 
     ghost view = { λ all. requests_in all.asked all.states.items };
 
-    ghost invariant = { λ all. IsKept all.asked all.states.items all.table all.holding.items all.waiting.items };
+    ghost invariant = { λ all. IsStored all.asked all.states.items all.table all.holding.items all.waiting.items };
 }
 
 impl Requests {
@@ -86,14 +88,18 @@ impl Requests {
         ensures err { OnErr result (self.new ≡ self.old) }
     {
         laws::orders_ranks();
-        let place = self.len();
+        let place = short(self.len())?;
         let key = bucket_of(&asked.key.workflow, &asked.key.path);
         let turn = turn_for(&self.asked, self.waiting.as_slice(), &asked.rank);
         let bucket = self.bucket(key).copy()?;
         let table = with_place(&self.table, key, bucket, place)?;
         let all = with_asked(&self.asked, asked)?;
         self.states.try_reserve(1)?;
-        list_new(&mut self.holding, &mut self.waiting, state, place, turn)?;
+        let new = Holder {
+            place,
+            bucket: key as u32,
+        };
+        list_new(&mut self.holding, &mut self.waiting, state, new, turn)?;
         self.states.push_reserved(state);
         self.asked = all;
         self.table = table;
@@ -167,12 +173,14 @@ impl Requests {
         }
     }
 
-    // Whether the request at one of these places is of the key of these parts.
-    fn is_among(&self, places: &[usize], workflow: &Text, path: &Path) -> bool
-        ensures { result ≡ list_any (rows.is_at (laws.is_of (key_by workflow.now path.now)) self.now) places.now }
+    // Whether one of these has this bucket, and its request is of the key of these parts.
+    fn is_among(&self, holders: &[Holder], bucket: usize, workflow: &Text, path: &Path) -> bool
+        ensures { result ≡ list_any (is_there bucket (laws.is_of (key_by workflow.now path.now)) self.now) holders.now }
     {
-        for place in places {
-            if self.is_by(*place, workflow, path) {
+        for holder in holders {
+            if holder.bucket as usize == bucket
+                && self.is_by(holder.place as usize, workflow, path)
+            {
                 return true;
             }
         }
@@ -192,7 +200,8 @@ impl Requests {
         ensures { result ≡ is_held (key_by workflow.now path.now) self.now }
     {
         if !self.has_many_holders() {
-            return self.is_among(self.holding.as_slice(), workflow, path);
+            let bucket = bucket_of(workflow, path);
+            return self.is_among(self.holding.as_slice(), bucket, workflow, path);
         }
         match self.find(workflow, path) {
             None => false,
@@ -200,12 +209,12 @@ impl Requests {
         }
     }
 
-    // Whether the request at one of these places is of a workflow.
-    fn has_of(&self, places: &[usize], workflow: &Text) -> bool
-        ensures { result ≡ list_any (rows.is_at (is_of_workflow workflow.now) self.now) places.now }
+    // Whether the request of one of these is of a workflow.
+    fn has_of(&self, holders: &[Holder], workflow: &Text) -> bool
+        ensures { result ≡ list_any (λ (h : Holder). rows.is_at (is_of_workflow workflow.now) self.now h.place) holders.now }
     {
-        for place in places {
-            if self.is_of(*place, workflow) {
+        for holder in holders {
+            if self.is_of(holder.place as usize, workflow) {
                 return true;
             }
         }
@@ -266,9 +275,9 @@ impl Requests {
             }
             Some(turn) => {
                 let first = self.waiting.remove(turn);
-                self.states[first] = LockState::Holding;
+                self.states[first as usize] = LockState::Holding;
                 // The new holder takes the place of the old one, which needs no memory.
-                self.holding[held] = first;
+                self.holding[held] = holder_at(&self.asked, first);
             }
         }
     }
@@ -294,13 +303,24 @@ impl Requests {
 }
 
 // The same items. A clone of a vector takes its items one by one, which was a fifth of what a book's copy costs; this moves
-// them at once.
+// them at once. There is room for one more: a copy is made to file a request in it, which moves nothing again.
 fn copied<T: Copy>(items: &Vec<T>) -> Result<Vec<T>, Memory>
     ensures { IfOk result (λ copy. copy.items ≡ items.now.items) }
 {
-    let mut copy = Vec::with_capacity(*items.allocator(), items.len())?;
+    let room = items.len().saturating_add(1);
+    let mut copy = Vec::with_capacity(*items.allocator(), room)?;
     copy.extend_from_slice(items.as_slice())?;
     Ok(copy)
+}
+
+// The same place in 32 bits. There is no memory for requests whose places do not fit.
+fn short(place: usize) -> Result<u32, Memory>
+    ensures { IfOk result (λ short. short ≡ place) }
+{
+    match u32::try_from(place) {
+        Ok(place) => Ok(place),
+        Err(_) => Err(Memory),
+    }
 }
 
 // The table with one place more at the end of a bucket.
@@ -308,7 +328,7 @@ fn with_place(
     table: &SharedList<Bucket>,
     key: usize,
     bucket: Bucket,
-    place: usize,
+    place: u32,
 ) -> Result<SharedList<Bucket>, Memory>
     requires { key < length table.now }
     ensures { IfOk result (λ t. t ≡ slice_set table.now key (bucket ++ place ∷ [])) }
@@ -328,22 +348,22 @@ fn with_asked(all: &SharedList<Asked>, asked: Asked) -> Result<SharedList<Asked>
     Ok(all)
 }
 
-// Lists the place of a new request that stands so: behind all holders, or at its turn among those that wait.
+// Lists a new request that stands so: behind all holders, or at its turn among those that wait.
 fn list_new(
-    holding: &mut Vec<usize>,
-    waiting: &mut Vec<usize>,
+    holding: &mut Vec<Holder>,
+    waiting: &mut Vec<u32>,
     state: LockState,
-    place: usize,
+    new: Holder,
     turn: usize,
 ) -> Result<(), Memory>
     requires { turn ≤ length waiting.old.items }
-    ensures holding { OnOk result (holding.new.items ≡ queues.holding_with state place holding.old.items) }
-    ensures waiting { OnOk result (waiting.new.items ≡ queues.waiting_with state place turn waiting.old.items) }
+    ensures holding { OnOk result (holding.new.items ≡ holding_with state new holding.old.items) }
+    ensures waiting { OnOk result (waiting.new.items ≡ queues.waiting_with state new.place turn waiting.old.items) }
     ensures err { OnErr result ((holding.new.items ≡ holding.old.items) × (waiting.new.items ≡ waiting.old.items)) }
 {
     match state {
-        LockState::Waiting => waiting.insert(turn, place)?,
-        LockState::Holding => holding.push(place)?,
+        LockState::Waiting => waiting.insert(turn, new.place)?,
+        LockState::Holding => holding.push(new)?,
         LockState::Released => {}
     }
     Ok(())

@@ -48,7 +48,7 @@ pub fn waiting(manifest: &Manifest, lock: &LockId) -> Result<WorkflowTree, Memor
 {
     let alloc = manifest.name.allocator();
     let path = Path {
-        sels: Sels::new(alloc),
+        sels: Sels::new(alloc)?,
     };
     let mut wants = Wants::new(alloc);
     wants.push(Want::Lock(path, lock.copy()?))?;
@@ -56,14 +56,18 @@ pub fn waiting(manifest: &Manifest, lock: &LockId) -> Result<WorkflowTree, Memor
 }
 
 /// The workflow's own lock, while it is not granted.
-pub fn awaited<'a, R: Recorded>(manifest: &'a Manifest, recorded: &R) -> Option<&'a LockId>
-    ensures { option_copied result ≡ inside.awaited (R.answers recorded.now) manifest.now.lock }
+pub fn awaited<'a, R: Recorded>(
+    manifest: &'a Manifest,
+    recorded: &R,
+) -> Result<Option<&'a LockId>, Memory>
+    ensures { IfOk result
+        (λ lock. option_copied lock ≡ inside.awaited (R.answers recorded.now) manifest.now.lock) }
 {
-    let own = Sels::new(manifest.name.allocator());
+    let own = Sels::new(manifest.name.allocator())?;
     if recorded.granted(&own) {
-        None
+        Ok(None)
     } else {
-        manifest.lock.as_ref()
+        Ok(manifest.lock.as_ref())
     }
 }
 

@@ -69,7 +69,7 @@ impl WorkflowTree {
             let nothing = Wants::new(manifest.name.allocator());
             return Ok(pending(manifest, Note::None, nothing)?);
         }
-        match awaited(manifest, recorded) {
+        match awaited(manifest, recorded)? {
             Some(lock) => Ok(waiting(manifest, lock)?),
             None => running(manifest, recorded),
         }

@@ -1,5 +1,5 @@
 -- A journal stays one where a fact of a new kind or path is added.
-use Rattle.std.proofs.Common.{◌≡◌, refl, ◌∙◌, ap, sym, List, [], ◌∷◌, ◌++◌, Bool, true, false, IsTrue, subst}
+use Rattle.std.proofs.Common.{◌≡◌, refl, ◌∙◌, ap, sym, List, [], ◌∷◌, ◌++◌, Bool, false, IsTrue, subst}
 use Rattle.std.specs.Prelude.{not, ◌&&◌, ◌||◌, Result, Ok, Err, OnOk, OnErr}
 use Rattle.std.proofs.lemmas.List.Folds.{list_any-append}
 use Rattle.std.proofs.Math.Bool.{or-false}

@@ -1,7 +1,7 @@
 //! The entries of the store's history, and the keys of its objects.
 
 use crate::{Facts, LockId, Outcome, Outputs, Path};
-use base_types::{List, Text};
+use base_types::{List, Shared, Text};
 
 /// The key of an object in the store.
 #[derive(Debug, PartialEq, Eq, Hash, Drop)]
@@ -67,13 +67,13 @@ pub enum Entry {
     Finish {
         workflow: Text,
         node: Text,
-        outcome: Outcome,
+        outcome: Shared<Outcome>,
     },
     /// A request for a lock was filed.
     File {
         lock: LockId,
         key: HolderKey,
-        rank: Rank,
+        rank: Shared<Rank>,
     },
     /// A lock was released.
     Release {
@@ -85,7 +85,7 @@ pub enum Entry {
         cache: Text,
         key: Text,
         writer: HolderKey,
-        outputs: Outputs,
+        outputs: Shared<Outputs>,
         tick: u64,
     },
     /// The clock moved.

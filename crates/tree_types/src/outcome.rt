@@ -20,10 +20,10 @@ pub type Params = List<Param>;
 #[derive(Debug, Drop)]
 pub struct Outcome {
     pub phase: Phase,
-    pub result: Option<Text>,
-    pub params: Params,
     /// Whether an Error is one that a retry of transient errors tries again.
     pub transient: bool,
+    pub result: Option<Text>,
+    pub params: Params,
     pub begin: u64,
     pub finish: u64,
     pub ghost ended: { IsTrue (is_end phase) },

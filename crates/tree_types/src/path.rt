@@ -1,6 +1,6 @@
 //! Places in a node tree, and the names of locks.
 
-use base_types::{List, Text};
+use base_types::{SharedSlice, Text};
 
 /// One selector of a path; the numbers are positions from 0 in the manifest's lists, or the number of an attempt.
 #[derive(Clone, Copy, Debug, PartialEq, Eq, Hash)]
@@ -14,8 +14,8 @@ pub enum Sel {
     Attempt(u32),
 }
 
-/// A list of selectors.
-pub type Sels = List<Sel>;
+/// A list of selectors, which its copies share.
+pub type Sels = SharedSlice<Sel>;
 
 /// A place in a node tree, from the entrypoint (`Main`) or the exit handler (`Exit`) down. The empty path stands for the
 /// workflow itself, as the holder of its own lock.

@@ -3,14 +3,16 @@
 ghost use Rattle.std.specs.Prelude.{◌≡◌, IfOk};
 ghost use Rattle.std.specs.List.{filter_map};
 ghost use Rattle.recorded.specs.Ends as ends;
+ghost use Rattle.tree_types.specs.declared.fact.Fact.TheVariants as fact;
 ghost use Rattle.law.specs.Contents.{flow};
 ghost use Rattle.law.specs.Justified as law;
 ghost use Rattle.askings.specs.Ends as askings;
 
-use base_types::{Memory, TryCopy};
+use base_types::{Memory, Shared, TryCopy};
 use meaning::Place;
 use recorded::{Ended, Recorded};
 use shared_facts::SharedFacts;
+use std::alloc::Global;
 use tree_incr::TreeState;
 use tree_types::{Fact, Facts, Kind, Node, Note, Outcome, Phase};
 
@@ -26,17 +28,27 @@ fn has_succeeded(node: &Node) -> bool
     node.phase == Phase::Succeeded && !is_hit(&node.note)
 }
 
-fn outcome_of(ended: &Ended<'_>) -> Result<Outcome, Memory>
+fn outcome_of(alloc: Global, ended: &Ended<'_>) -> Result<Shared<Outcome>, Memory>
     ensures { IfOk result (λ outcome. outcome ≡ ends.outcome_of ended.now) }
 {
-    Ok(Outcome {
+    let outcome = Outcome {
         phase: ended.phase,
         result: ended.result.copy()?,
         params: ended.params.copy()?,
         transient: ended.transient,
         begin: ended.begin,
         finish: ended.finish,
-    })
+    };
+    Ok(Shared::new(alloc, outcome)?)
+}
+
+// The fact that carries over how the pod of a node ended.
+fn carried_fact(node: &Node, ended: &Ended<'_>) -> Result<Fact, Memory>
+    ensures { IfOk result
+        (λ carried. carried ≡ fact.Carried node.now.path (ends.outcome_of ended.now)) }
+{
+    let outcome = outcome_of(node.name.allocator(), ended)?;
+    Ok(Fact::Carried(node.path.copy()?, outcome))
 }
 
 // The outcome of a pod's node that Succeeded.
@@ -52,7 +64,7 @@ fn carried_pod(facts: &SharedFacts, node: &Node) -> Result<Option<Fact>, Memory>
         None => Ok(None),
         Some(ended) => {
             if has_succeeded(node) {
-                Ok(Some(Fact::Carried(node.path.copy()?, outcome_of(&ended)?)))
+                Ok(Some(carried_fact(node, &ended)?))
             } else {
                 Ok(None)
             }

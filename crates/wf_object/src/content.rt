@@ -1,14 +1,15 @@
 //! The contents of the store's objects.
 
-ghost use Rattle.std.specs.Prelude.{◌≡◌, Some, option_copied, option_map};
+ghost use Rattle.std.specs.Prelude.{◌≡◌, IfOk, Some, option_copied, option_map};
 ghost use Rattle.law.specs.Contents.{OfWorkflow, OfPod, OfLocks, OfCaches, flow_in, pod_in, apply};
 ghost use Rattle.wf_object.specs.Kept.{law_book, locks_in, caches_in, makes, begins, justified};
 
 use crate::following::{book_after, caches_after, object_after, pod_after};
 use crate::{PodObject, WfObject};
-use base_types::{Memory, TryCopy};
+use base_types::{Memory, Shared, TryCopy};
 use memo_cache::Cache;
 use object_store::Content;
+use std::alloc::Global;
 use std::marker::Model;
 use sync_locks::LockBook;
 use tree_types::Entry;
@@ -19,12 +20,13 @@ pub struct WfContent {
     held: Held,
 }
 
+// Of most objects, which are pods, there are two versions, so that all but a pod is kept apart.
 #[derive(Drop)]
 enum Held {
-    Workflow(WfObject),
+    Workflow(Shared<WfObject>),
     Pod(PodObject),
-    Locks(LockBook),
-    Caches(Cache),
+    Locks(Shared<LockBook>),
+    Caches(Shared<Cache>),
 }
 
 // Written out, so that proofs about code that drops a content see one call.
@@ -48,12 +50,13 @@ impl Model for WfContent {
 }
 
 impl WfContent {
-    pub fn of_workflow(object: WfObject) -> WfContent
-        ensures { result ≡ OfWorkflow object }
+    pub fn of_workflow(object: WfObject) -> Result<WfContent, Memory>
+        ensures { IfOk result (λ content. content ≡ OfWorkflow object) }
     {
-        WfContent {
-            held: Held::Workflow(object),
-        }
+        let alloc = object.manifest().name.allocator();
+        Ok(WfContent {
+            held: Held::Workflow(Shared::new(alloc, object)?),
+        })
     }
 
     pub fn of_pod(pod: PodObject) -> WfContent
@@ -64,20 +67,20 @@ impl WfContent {
         }
     }
 
-    pub fn of_locks(book: LockBook) -> WfContent
-        ensures { result ≡ OfLocks (law_book book) }
+    pub fn of_locks(alloc: Global, book: LockBook) -> Result<WfContent, Memory>
+        ensures { IfOk result (λ content. content ≡ OfLocks (law_book book)) }
     {
-        WfContent {
-            held: Held::Locks(book),
-        }
+        Ok(WfContent {
+            held: Held::Locks(Shared::new(alloc, book)?),
+        })
     }
 
-    pub fn of_caches(cache: Cache) -> WfContent
-        ensures { result ≡ OfCaches cache }
+    pub fn of_caches(alloc: Global, cache: Cache) -> Result<WfContent, Memory>
+        ensures { IfOk result (λ content. content ≡ OfCaches cache) }
     {
-        WfContent {
-            held: Held::Caches(cache),
-        }
+        Ok(WfContent {
+            held: Held::Caches(Shared::new(alloc, cache)?),
+        })
     }
 
     /// The workflow, where it is one.
@@ -85,7 +88,7 @@ impl WfContent {
         ensures { option_copied result ≡ flow_in (Some self.now) }
     {
         match &self.held {
-            Held::Workflow(object) => Some(object),
+            Held::Workflow(object) => Some(object.value()),
             _ => None,
         }
     }
@@ -105,7 +108,7 @@ impl WfContent {
         ensures { option_map (λ book. law_book book.now) result ≡ locks_in (Some self.now) }
     {
         match &self.held {
-            Held::Locks(book) => Some(book),
+            Held::Locks(book) => Some(book.value()),
             _ => None,
         }
     }
@@ -115,7 +118,7 @@ impl WfContent {
         ensures { option_copied result ≡ caches_in (Some self.now) }
     {
         match &self.held {
-            Held::Caches(cache) => Some(cache),
+            Held::Caches(cache) => Some(cache.value()),
             _ => None,
         }
     }
@@ -147,10 +150,10 @@ impl Content for WfContent {
     // nobody holds, the answer is that of missing memory. No such entry is justified.
     fn after(&self, change: &Entry) -> Result<WfContent, Memory> {
         match &self.held {
-            Held::Workflow(object) => object_after(object, change),
+            Held::Workflow(object) => object_after(object.value(), change),
             Held::Pod(pod) => pod_after(pod, change),
-            Held::Locks(book) => book_after(book, change),
-            Held::Caches(cache) => caches_after(cache, change),
+            Held::Locks(book) => book_after(book.value(), change),
+            Held::Caches(cache) => caches_after(cache.value(), change),
         }
     }
 }

@@ -20,7 +20,7 @@ pub fn object_after(object: &WfObject, change: &Entry) -> Result<WfContent, Memo
             version: _,
             facts,
         } => match object.with(facts) {
-            Ok(next) => Ok(WfContent::of_workflow(next)),
+            Ok(next) => Ok(WfContent::of_workflow(next)?),
             Err(_) => Err(Memory),
         },
         _ => unreachable!(),
@@ -49,12 +49,12 @@ pub fn book_after(book: &LockBook, change: &Entry) -> Result<WfContent, Memory>
     match change {
         Entry::File { lock, key, rank } => {
             match next.file(lock.copy()?, key.copy()?, rank.copy()?) {
-                Ok(()) => Ok(WfContent::of_locks(next)),
+                Ok(()) => Ok(WfContent::of_locks(lock.text.allocator(), next)?),
                 Err(_) => Err(Memory),
             }
         }
         Entry::Release { lock: _, key } => match next.release(key) {
-            Ok(()) => Ok(WfContent::of_locks(next)),
+            Ok(()) => Ok(WfContent::of_locks(key.workflow.allocator(), next)?),
             Err(_) => Err(Memory),
         },
         _ => unreachable!(),
@@ -81,7 +81,7 @@ pub fn caches_after(cache: &Cache, change: &Entry) -> Result<WfContent, Memory>
                 outputs.copy()?,
                 *tick,
             ) {
-                Ok(()) => Ok(WfContent::of_caches(next)),
+                Ok(()) => Ok(WfContent::of_caches(name.allocator(), next)?),
                 Err(_) => Err(Memory),
             }
         }

@@ -3,7 +3,7 @@
 ghost use Rattle.std.specs.Prelude.{◌≡◌, IfOk, option_copied};
 ghost use Rattle.law.specs.Contents as law;
 
-use base_types::{Memory, TryCopy};
+use base_types::{Memory, Shared, TryCopy};
 use std::marker::Model;
 use tree_types::{Outcome, Path};
 
@@ -12,7 +12,7 @@ use tree_types::{Outcome, Path};
 pub struct PodObject {
     path: Path,
     begin: u64,
-    outcome: Option<Outcome>,
+    outcome: Option<Shared<Outcome>>,
 }
 
 impl Model for PodObject {
@@ -39,7 +39,7 @@ impl PodObject {
     }
 
     /// The pod with this outcome.
-    pub fn finished(&self, outcome: Outcome) -> Result<PodObject, Memory>
+    pub fn finished(&self, outcome: Shared<Outcome>) -> Result<PodObject, Memory>
         ensures { IfOk result (λ pod. pod ≡ law.finished self.now outcome) }
     {
         Ok(PodObject {
@@ -64,7 +64,7 @@ impl PodObject {
     }
 
     /// How it ended, if it did.
-    pub fn outcome(&self) -> Option<&Outcome>
+    pub fn outcome(&self) -> Option<&Shared<Outcome>>
         ensures { option_copied result ≡ self.now.outcome }
     {
         self.outcome.as_ref()

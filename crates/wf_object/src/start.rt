@@ -16,7 +16,10 @@ pub fn starts(alloc: Global, limits: Limits) -> Result<Starts<WfContent>, Memory
     ensures { IfOk result (λ starts. starts ≡ start_of limits) }
 {
     let mut starts = Starts::new(alloc);
-    starts.add(Key::Locks, WfContent::of_locks(LockBook::new(limits)?))?;
-    starts.add(Key::Caches, WfContent::of_caches(Cache::new(alloc)))?;
+    starts.add(
+        Key::Locks,
+        WfContent::of_locks(alloc, LockBook::new(limits)?)?,
+    )?;
+    starts.add(Key::Caches, WfContent::of_caches(alloc, Cache::new(alloc))?)?;
     Ok(starts)
 }

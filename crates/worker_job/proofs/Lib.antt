@@ -8,4 +8,5 @@ mod OtherKinds
 mod Passing
 mod Running
 mod Marked
+mod Saving
 mod Lasting

@@ -1,5 +1,6 @@
 -- What speaks only of private code.
 pub mod Marks
+pub mod Saving
 use Rattle.std.specs.Prelude.{◌≡◌, ℕ, true, List, map, reverse, Option, Some, None, is_some, option_map, option_and_then}
 use Rattle.tree_types.specs.declared.entry.Key.{Key}
 use Rattle.tree_types.specs.declared.entry.Key.TheVariants.{Workflow, Locks, Caches}
@@ -15,6 +16,7 @@ use Rattle.worker_job.specs.declared.job.SeenPod.{SeenPod}
 use Rattle.worker_job.specs.declared.job.Job.TheInside.{Inside}
 use Rattle.worker_job.specs.Jobs.{OneJob}
 use Rattle.worker_job.specs.Inside.Marks.{MarksFit}
+use Rattle.worker_job.specs.Inside.Saving.{MarkFits}
 
 -- ---- what was read, as views
 
@@ -71,3 +73,4 @@ pub record IsKept (w : Text) (flow book saves : Option (Snapshot Content)) : Typ
 pub record IsHeld (a : Inside) : Type 0 where
   pub kept : IsKept a.workflow a.flow a.book a.saves
   pub marked : MarksFit (looks_of a) (flow_of a) a.marks
+  pub saved : MarkFits a.saved.path a.workflow (option_and_then flow_seen a.flow) (option_and_then saves_seen a.saves)

@@ -7,7 +7,8 @@ use Rattle.object_store.specs.declared.snapshot.Snapshot.{Snapshot}
 use Rattle.law.specs.Documents.{Text}
 use Rattle.meaning.specs.Answers.{Facts}
 use Rattle.law.specs.Contents.{Flow, Book, Content, OfWorkflow, OfLocks, OfCaches, flow_in}
-use Rattle.law.specs.Due.{Matter, record_fact}
+use Rattle.law.specs.Due.{Matter, record_fact, save}
+use Rattle.wf_object.specs.Kept.{caches_in}
 use Rattle.next_step.specs.Views.{Seen, Views}
 use Rattle.next_step.specs.Replies.{Job, Ending, goes_on, ended, seen}
 
@@ -44,6 +45,23 @@ GoesOn v c = (s : Seen Flow) (f : Flow) → v.flow ≡ Some s → flow_in (Some 
 abbrev pub FactGoesOn : Matter → Views → Content → Type 0
 FactGoesOn (record_fact x) v c = GoesOn v c
 FactGoesOn _ v c = Unit {0}
+
+-- ---- what a save leaves
+
+-- more saves behind those that there were
+pub record HasMoreSaves (ss ts : List Saved) : Type 0 where
+  pub more : List Saved
+  pub saves : ts ≡ ss ++ more
+
+-- the saves go on from those that were read
+abbrev pub SavesGoOn : Views → Content → Type 0
+SavesGoOn v c =
+    (s : Seen (List Saved)) (ss : List Saved) → v.saves ≡ Some s → caches_in (Some c) ≡ Some ss → HasMoreSaves s.content ss
+
+-- where outputs were saved
+abbrev pub SaveGoesOn : Matter → Views → Content → Type 0
+SaveGoesOn (save cache entry k outputs) v c = SavesGoOn v c
+SaveGoesOn _ v c = Unit {0}
 
 -- ---- the object of a view
 

@@ -22,6 +22,7 @@ use Rattle.next_step.specs.Replies.{seen}
 use Rattle.worker_job.specs.declared.matter.Next.{Next as Act}
 use Rattle.worker_job.specs.declared.reading.Reading.{Reading}
 use Rattle.worker_job.specs.Told.{next_told}
+use Rattle.worker_job.specs.Inside.Saving.{MarkFits}
 
 -- a command that resumes nodes of this workflow
 abbrev pub is_resumption : Text → Command → Bool
@@ -48,6 +49,10 @@ module _ (r : Reading) where
 
   abbrev pub flow : Seen Flow
   flow = seen r.version r.object.now r.tick
+
+  -- what is known to be saved is saved
+  abbrev pub IsSaveMarked : Type 0
+  IsSaveMarked = MarkFits r.saved.now.path workflow (Some flow) views.saves
 
   -- ---- questions
 

@@ -1,22 +1,26 @@
 //! What was read and noted in a job.
 
-ghost use Rattle.std.specs.Prelude.{◌≡◌, ◌∷◌, None, Some, true, not, map, filter, bytes_eq, is_some, IfOk, OnOk, MatchOption, option_copied, option_map, option_and_then};
+ghost use Rattle.std.specs.Prelude.{◌≡◌, ◌∷◌, None, Some, true, not, List as Seq, map, filter, bytes_eq, is_some, IfOk, OnOk, MatchOption, option_copied, option_map, option_and_then};
 ghost use Rattle.std.specs.List.{list_any};
 ghost use Rattle.tree_types.specs.declared.entry.Key.TheVariants as of_key;
 ghost use Rattle.law.specs.Contents.{Flow, flow_in};
+ghost use Rattle.law.specs.Justified.{wants_of};
+ghost use Rattle.saves.specs.declared.Saved.{Saved};
 ghost use Rattle.wf_object.specs.Documents.{law_of};
 ghost use Rattle.wf_object.specs.Kept.{law_book, locks_in, caches_in};
 ghost use Rattle.next_step.specs.Views.{Seen, nothing, is_look, look_at, pod_seen};
 ghost use Rattle.next_step.specs.Next.{worker_next, get, act};
 ghost use Rattle.next_step.specs.Replies.{after, taken, with_look, seen, found, accepted, no_object, exists};
-ghost use Rattle.worker_job.specs.Jobs.{Leaves, IsRead, HasMore, GoesOn, FactGoesOn, ShowsFlow, ShowsBook, ShowsSaves};
+ghost use Rattle.worker_job.specs.Jobs.{Leaves, IsRead, HasMore, GoesOn, FactGoesOn, HasMoreSaves, SavesGoOn, SaveGoesOn, ShowsFlow, ShowsBook, ShowsSaves};
 ghost use Rattle.worker_job.specs.Told.{matter_told, next_told, key_of};
 ghost use Rattle.worker_job.specs.Inside.Marks.{IsMarked, MarksFit};
+ghost use Rattle.worker_job.specs.Inside.Saving.{MarkFits, NoneLeft};
 ghost use Rattle.worker_job.specs.Inside.{look_told, pod_told, kept_saves, flow_seen, book_seen, saves_seen};
 
 use crate::marks::{Marks, Pods};
 use crate::matter::{Matter, Next};
 use crate::reading::Reading;
+use crate::save_mark::{SaveMark, ToSave};
 use base_types::{List, Memory, Names, Text, TryCopy};
 use looks::{Look, Looks};
 use memo_cache::Cache;
@@ -25,7 +29,7 @@ use std::alloc::Global;
 use std::marker::Model;
 use std::mem;
 use sync_locks::LockBook;
-use tree_types::{Fact, Key};
+use tree_types::{Fact, Key, Path};
 use wf_bundle::Document;
 use wf_object::{PodObject, WfContent, WfObject};
 
@@ -45,6 +49,7 @@ pub struct Job {
     saves: Option<Snapshot<WfContent>>,
     looks: Looks<SeenPod>,
     marks: Marks,
+    saved: SaveMark,
     // The names of the resubmissions that were tried, the last one last.
     tried: Names,
 }
@@ -59,6 +64,7 @@ impl Drop for Job {
             saves: _,
             looks: _,
             marks: _,
+            saved: _,
             tried: _,
         } = self;
     }
@@ -91,6 +97,7 @@ impl Job {
             saves: None,
             looks: Looks::new(alloc),
             marks: Marks::none(),
+            saved: SaveMark::none(),
             tried: List::new(alloc),
         }
     }
@@ -120,6 +127,7 @@ impl Job {
                     version: snapshot.version,
                     tick: snapshot.tick,
                     marks: &self.marks,
+                    saved: &self.saved,
                 };
                 reading.next()
             }
@@ -250,6 +258,7 @@ impl Job {
     pub fn did(&mut self, matter: &Matter, snapshot: Snapshot<WfContent>) -> Result<bool, Memory>
         requires key { snapshot.key ≡ key_of self.old.workflow (matter_told matter.now) }
         requires goes_on { FactGoesOn (matter_told matter.now) self.old.views snapshot.content }
+        requires saved { SaveGoesOn (matter_told matter.now) self.old.views snapshot.content }
         ensures after { IfOk result (λ on. Leaves on
             (after self.old.views (act (matter_told matter.now))
             (accepted (seen snapshot.version snapshot.content snapshot.tick))) self.new.views) }
@@ -257,6 +266,7 @@ impl Job {
     {
         match matter {
             Matter::RecordFact(fact) => self.go_on(fact, snapshot),
+            Matter::Save(_, _, writer, _) => self.save_on(&writer.path, snapshot),
             Matter::Submit(resubmission) => {
                 self.note_try(&resubmission.name)?;
                 Ok(true)
@@ -359,10 +369,49 @@ impl Job {
         ensures workflow { self.new.workflow ≡ self.old.workflow }
     {
         if snapshot.content.caches().is_some() {
-            self.set_saves(snapshot);
+            self.set_saves(snapshot, SaveMark::none());
             true
         } else {
             false
+        }
+    }
+
+    // A path saved something, and the saves are these now.
+    fn save_on(&mut self, path: &Path, snapshot: Snapshot<WfContent>) -> Result<bool, Memory>
+        requires key { snapshot.key ≡ of_key.Caches }
+        requires goes_on { SavesGoOn self.old.views snapshot.content }
+        ensures after { IfOk result (λ on. Leaves on
+            (taken self.old.views snapshot.key snapshot.version snapshot.tick snapshot.content)
+            self.new.views) }
+        ensures workflow { self.new.workflow ≡ self.old.workflow }
+    {
+        let Some(saves) = snapshot.content.caches() else {
+            return Ok(false);
+        };
+        let saved = self.saved_at(path, saves)?;
+        self.set_saves(snapshot, saved);
+        Ok(true)
+    }
+
+    // Up to which path all is saved, where the saves become these by one of a path.
+    fn saved_at(&self, path: &Path, saves: &Cache) -> Result<SaveMark, Memory>
+        requires { (s : Seen (Seq Saved)) → self.now.views.saves ≡ Some s → HasMoreSaves s.content saves.now }
+        ensures { IfOk result (λ mark. (s : Seen Flow) → self.now.views.flow ≡ Some s
+            → NoneLeft mark.path self.now.workflow saves.now (wants_of s.content)) }
+    {
+        let (Some(flow), Some(_)) = (self.flow(), self.cache()) else {
+            return Ok(SaveMark::none());
+        };
+        match flow.content.workflow() {
+            None => Ok(SaveMark::none()),
+            Some(object) => {
+                let to_save = ToSave {
+                    workflow: &self.workflow,
+                    object,
+                    saves,
+                };
+                to_save.moved(&self.saved, path)
+            }
         }
     }
 
@@ -400,6 +449,7 @@ impl Job {
     {
         self.flow = Some(snapshot);
         self.saves = None;
+        self.saved = SaveMark::none();
         self.marks = marks_behind(&self.flow, &self.looks, marks);
     }
 
@@ -412,13 +462,15 @@ impl Job {
         self.book = Some(snapshot);
     }
 
-    fn set_saves(&mut self, snapshot: Snapshot<WfContent>)
+    fn set_saves(&mut self, snapshot: Snapshot<WfContent>, saved: SaveMark)
         requires key { snapshot.key ≡ of_key.Caches }
         requires kind { is_some (caches_in (Some snapshot.content)) ≡ true }
+        requires saved { MarkFits saved.path self.old.workflow self.old.views.flow (saves_seen snapshot) }
         ensures views { self.new.views ≡ record self.old.views { saves = saves_seen snapshot } }
         ensures workflow { self.new.workflow ≡ self.old.workflow }
     {
         self.saves = Some(snapshot);
+        self.saved = saved;
     }
 
     // A look at the pod of a name.

@@ -7,6 +7,7 @@ mod marks;
 mod matter;
 mod queries;
 mod reading;
+mod save_mark;
 mod steps;
 
 pub use job::Job;

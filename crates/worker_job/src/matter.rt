@@ -1,6 +1,6 @@
 //! What a worker does.
 
-use base_types::Text;
+use base_types::{Shared, Text};
 use tree_types::{Fact, HolderKey, Key, LockId, Outputs, Path, Rank};
 
 /// A workflow that is over is submitted once more, under another name.
@@ -21,7 +21,7 @@ pub enum Matter {
     /// A fact is written to the workflow.
     RecordFact(Fact),
     /// A request for a lock is filed.
-    File(LockId, HolderKey, Rank),
+    File(LockId, HolderKey, Shared<Rank>),
     /// The pod of a node is made, by the name of the node.
     Create(Path, Text),
     /// Outputs are saved: the cache, the key, the writer, and the outputs.

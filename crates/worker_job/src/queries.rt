@@ -1,6 +1,6 @@
 //! The first want or node of the tree that gives something.
 
-ghost use Rattle.std.specs.Prelude.{◌≡◌, Some, None, is_some, option_map};
+ghost use Rattle.std.specs.Prelude.{◌≡◌, ◌&&◌, not, Some, None, is_some, option_map};
 ghost use Rattle.tree_types.specs.declared.fact.Fact.TheVariants as fact;
 ghost use Rattle.tree_types.specs.declared.entry.Key.TheVariants as of_key;
 ghost use Rattle.tree_types.specs.declared.want.Want.{Want as Wanted};
@@ -10,11 +10,12 @@ ghost use Rattle.law.specs.Due.{record_fact, file, create, save, release};
 ghost use Rattle.next_step.specs.Views.{first_given};
 ghost use Rattle.next_step.specs.Next.{get};
 ghost use Rattle.worker_job.specs.Inside.Marks.{IsMarked};
+ghost use Rattle.worker_job.specs.Inside.Saving.{covers, NoneLeft};
 ghost use Rattle.worker_job.specs.Readings as reads;
 
 use crate::marks::{Read, Sought};
 use crate::reading::Reading;
-use base_types::Text;
+use base_types::{Shared, Text};
 use memo_cache::Cache;
 use tree_incr::{NodeTest, WantKind, WantTest};
 use tree_types::{LockId, Node, Outcome, Outputs, Path, Want};
@@ -61,7 +62,7 @@ impl<'a> WantTest for Reached<'a> {
     }
 }
 
-// What is not among the saves.
+// What is not among the saves. What the mark covers is, and is not looked up.
 #[derive(Clone, Copy)]
 struct Unsaved<'a> {
     reading: Reading<'a>,
@@ -69,10 +70,11 @@ struct Unsaved<'a> {
 }
 
 impl<'a> WantTest for Unsaved<'a> {
-    ghost accepts = { λ test want. is_some (reads.saving test.reading test.saves.now want) };
+    ghost accepts = { λ test want. not (covers test.reading.saved.now.path want)
+        && is_some (reads.saving test.reading test.saves.now want) };
 
     fn accepts(&self, want: &Want) -> bool {
-        self.reading.unsaved(self.saves, want).is_some()
+        !self.reading.saved.covers(want) && self.reading.unsaved(self.saves, want).is_some()
     }
 }
 
@@ -121,7 +123,7 @@ impl<'a> Reading<'a> {
     }
 
     // The first pod that finished, and its outcome.
-    pub(crate) fn first_finished(&self) -> Option<(&Path, &Outcome)>
+    pub(crate) fn first_finished(&self) -> Option<(&Path, &Shared<Outcome>)>
         requires marked { IsMarked self.now.job.now.views.pods self.now.object.now self.now.marks.now }
         ensures { option_map (λ f. record_fact (fact.Settled f.0.now f.1.now)) result
             ≡ reads.asked self.now (reads.settling self.now) }
@@ -187,6 +189,7 @@ impl<'a> Reading<'a> {
 
     // The first that is to be saved and is not among the saves.
     pub(crate) fn first_unsaved(&self, saves: &Cache) -> Option<(&Path, &Text, &Text, &Outputs)>
+        requires saved { NoneLeft self.now.saved.now.path (reads.workflow self.now) saves.now (justified.wants_of self.now.object.now) }
         ensures { option_map
             (λ u. save u.1.now u.2.now (justified.key (reads.workflow self.now) u.0.now) u.3.now) result
             ≡ reads.asked self.now (reads.saving self.now saves.now) }

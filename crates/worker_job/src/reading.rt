@@ -18,7 +18,8 @@ ghost use Rattle.worker_job.specs.Readings as reads;
 use crate::job::Job;
 use crate::marks::{Marks, Pods};
 use crate::matter::Resubmission;
-use base_types::{Memory, Text, TryCopy};
+use crate::save_mark::SaveMark;
+use base_types::{Memory, Shared, Text, TryCopy};
 use books::LockState;
 use item_reader::Command;
 use memo_cache::Cache;
@@ -40,6 +41,7 @@ pub(crate) struct Reading<'a> {
     pub(crate) version: u64,
     pub(crate) tick: u64,
     pub(crate) marks: &'a Marks,
+    pub(crate) saved: &'a SaveMark,
 }
 
 // Whether the manifest or one of its templates has a lock.
@@ -69,18 +71,19 @@ impl<'a> Reading<'a> {
     }
 
     // The rank of a path whose node has this name.
-    pub(crate) fn rank(&self, path: &Path, name: &Text) -> Result<Rank, Memory>
+    pub(crate) fn rank(&self, path: &Path, name: &Text) -> Result<Shared<Rank>, Memory>
         ensures { IfOk result (λ r. r
             ≡ justified.rank self.now.object.now.manifest path.now.sels name.now) }
     {
         let manifest = self.object.manifest();
-        Ok(Rank {
+        let rank = Rank {
             priority: manifest.priority,
             created: manifest.created,
             workflow: manifest.name.copy()?,
             own: path.sels.is_empty(),
             name: name.copy()?,
-        })
+        };
+        Ok(Shared::new(name.allocator(), rank)?)
     }
 
     // The pods that are asked for, and the looks at them.
@@ -173,7 +176,7 @@ impl<'a> Reading<'a> {
     }
 
     // The outcome of a pod that finished.
-    pub(crate) fn finished<'b>(&'b self, want: &'b Want) -> Option<(&'b Path, &'b Outcome)>
+    pub(crate) fn finished<'b>(&'b self, want: &'b Want) -> Option<(&'b Path, &'b Shared<Outcome>)>
         ensures { option_map (λ f. record_fact (fact.Settled f.0.now f.1.now)) result
             ≡ reads.settling self.now want.now }
     {

@@ -1,18 +1,21 @@
 //! The steps of a worker in their order.
 
-ghost use Rattle.std.specs.Prelude.{◌≡◌, IfOk, option_map, option_copied};
+ghost use Rattle.std.specs.Prelude.{◌≡◌, [], IfOk, option_map, option_copied};
 ghost use Rattle.std.specs.List.{list_any};
+ghost use Rattle.meaning.specs.Answers.{path};
 ghost use Rattle.law.specs.Due.{record_fact};
+ghost use Rattle.law.specs.Justified.{wants_of};
 ghost use Rattle.next_step.specs.Next as next;
 ghost use Rattle.next_step.specs.Next.{act};
 ghost use Rattle.worker_job.specs.Told.{next_told};
 ghost use Rattle.worker_job.specs.Inside.Marks.{IsMarked};
+ghost use Rattle.worker_job.specs.Inside.Saving.{NoneLeft};
 ghost use Rattle.worker_job.specs.Readings as reads;
 ghost use Rattle.worker_job.specs.Readings.{step_told};
 
 use crate::matter::{Matter, Next};
 use crate::reading::{Reading, has_locks};
-use base_types::{Memory, TryCopy};
+use base_types::{Memory, Shared, TryCopy};
 use memo_cache::Cache;
 use tree_incr::WantKind;
 use tree_types::{Fact, Key, LockId, Outputs, Path, Sels, Want};
@@ -24,7 +27,7 @@ fn records(fact: Fact) -> Next
     Next::Act(Matter::RecordFact(fact))
 }
 
-fn copied(outputs: Option<&Outputs>) -> Result<Option<Outputs>, Memory>
+fn copied(outputs: Option<&Shared<Outputs>>) -> Result<Option<Shared<Outputs>>, Memory>
     ensures { IfOk result (λ copy. copy ≡ option_copied outputs.entry) }
 {
     match outputs {
@@ -37,6 +40,7 @@ impl<'a> Reading<'a> {
     // What a worker does next: the first of the steps that applies.
     pub(crate) fn next(&self) -> Result<Next, Memory>
         requires marked { IsMarked self.now.job.now.views.pods self.now.object.now self.now.marks.now }
+        requires saved { reads.IsSaveMarked self.now }
         ensures { IfOk result (λ n. next_told n ≡ next.first_step (reads.steps self.now)) }
     {
         if let Some(next) = self.read_book() {
@@ -54,6 +58,7 @@ impl<'a> Reading<'a> {
     // The same, where the steps before do not apply.
     fn next_answer(&self) -> Result<Next, Memory>
         requires marked { IsMarked self.now.job.now.views.pods self.now.object.now self.now.marks.now }
+        requires saved { reads.IsSaveMarked self.now }
         ensures { IfOk result (λ n. next_told n ≡ next.first_step (reads.answering_steps self.now)) }
     {
         if let Some(next) = self.settle()? {
@@ -70,6 +75,7 @@ impl<'a> Reading<'a> {
 
     fn next_waiting(&self) -> Result<Next, Memory>
         requires marked { IsMarked self.now.job.now.views.pods self.now.object.now self.now.marks.now }
+        requires saved { reads.IsSaveMarked self.now }
         ensures { IfOk result (λ n. next_told n ≡ next.first_step (reads.waiting_steps self.now)) }
     {
         if let Some(next) = self.look_up()? {
@@ -86,6 +92,7 @@ impl<'a> Reading<'a> {
 
     fn next_change(&self) -> Result<Next, Memory>
         requires marked { IsMarked self.now.job.now.views.pods self.now.object.now self.now.marks.now }
+        requires saved { reads.IsSaveMarked self.now }
         ensures { IfOk result (λ n. next_told n ≡ next.first_step (reads.changing_steps self.now)) }
     {
         if let Some(next) = self.resume()? {
@@ -270,6 +277,7 @@ impl<'a> Reading<'a> {
 
     // The first that is not among the saves.
     fn save_into(&self, saves: &Cache) -> Result<Option<Next>, Memory>
+        requires saved { NoneLeft self.now.saved.now.path (reads.workflow self.now) saves.now (wants_of self.now.object.now) }
         ensures { IfOk result (λ step. step_told step
             ≡ option_map act (reads.asked self.now (reads.saving self.now saves.now))) }
     {
@@ -284,6 +292,7 @@ impl<'a> Reading<'a> {
     }
 
     fn save_by_saves(&self) -> Result<Option<Next>, Memory>
+        requires saved { reads.IsSaveMarked self.now }
         ensures { IfOk result (λ step. step_told step ≡ reads.save_by_saves self.now) }
     {
         match self.job.cache() {
@@ -293,6 +302,7 @@ impl<'a> Reading<'a> {
     }
 
     fn save_one(&self) -> Result<Option<Next>, Memory>
+        requires saved { reads.IsSaveMarked self.now }
         ensures { IfOk result (λ step. step_told step ≡ reads.save_one self.now) }
     {
         if self.asks_save() {
@@ -315,10 +325,18 @@ impl<'a> Reading<'a> {
         ensures { IfOk result (λ step. step_told step ≡ reads.release_one self.now) }
     {
         let root = Path {
-            sels: Sels::new(self.job.workflow().allocator()),
+            sels: Sels::new(self.job.workflow().allocator())?,
         };
-        if let Some(lock) = self.own_held(&root) {
-            return self.release(lock, &root);
+        self.release_from(&root)
+    }
+
+    // The workflow's own lock, whose path is the root's, goes before those of its nodes.
+    fn release_from(&self, root: &Path) -> Result<Option<Next>, Memory>
+        requires { root.now ≡ path [] }
+        ensures { IfOk result (λ step. step_told step ≡ reads.release_one self.now) }
+    {
+        if let Some(lock) = self.own_held(root) {
+            return self.release(lock, root);
         }
         match self.first_kept() {
             None => Ok(None),

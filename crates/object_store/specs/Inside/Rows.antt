@@ -6,7 +6,7 @@ use Rattle.object_store.specs.declared.line.Change.{Change}
 
 -- so many versions are a row
 abbrev pub row_size : ℕ
-row_size = 64
+row_size = 16
 
 abbrev pub change : ℕ → ℕ → Change
 change place tick = record { place = place; tick = tick }

@@ -1,10 +1,10 @@
 -- Places of requests in lists: those that hold a lock, in any order, and those that wait, in the order in which they go.
-use Rattle.std.specs.Prelude.{◌≡◌, ℕ, suc, ◌+◌, ◌<◌, Bool, false, true, cond, bytes_eq, List, [], ◌∷◌, ◌++◌, Option, Some, None, slice_get}
+use Rattle.std.specs.Prelude.{◌≡◌, ℕ, suc, ◌+◌, ◌<◌, Bool, false, true, cond, bytes_eq, List, [], ◌∷◌, Option, Some, None, slice_get}
 use Rattle.std.specs.List.{sum_by, insert}
 use Rattle.tree_types.specs.declared.entry.Rank.{Rank}
 use Rattle.books.specs.declared.Request.{Request}
 use Rattle.books.specs.declared.LockState.{LockState}
-use Rattle.books.specs.Books.{Text, before, is_waiting, is_holding}
+use Rattle.books.specs.Books.{Text, before, is_waiting}
 use Rattle.sync_locks.specs.declared.asked.Asked.{Asked}
 
 -- something was asked for, and it passes
@@ -43,10 +43,6 @@ sum_from so weight here (r ∷ rs) = cond (so r.state) (weight here) 0 + sum_fro
 abbrev pub Lists : (LockState → Bool) → List ℕ → List Request → Type 0
 Lists so places rs = (weight : ℕ → ℕ) → sum_by weight places ≡ sum_from so weight 0 rs
 
--- with a new request at the last place that stands so
-abbrev pub holding_with : LockState → ℕ → List ℕ → List ℕ
-holding_with state place holding = cond (is_holding state) (holding ++ place ∷ []) holding
-
--- the same at its turn
+-- with a new request at its turn, if it stands so
 abbrev pub waiting_with : LockState → ℕ → ℕ → List ℕ → List ℕ
 waiting_with state place turn waiting = cond (is_waiting state) (insert waiting turn place) waiting

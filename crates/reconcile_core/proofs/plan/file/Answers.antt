@@ -24,6 +24,6 @@ returns c =
     let b = law_book c.in-Some-locks.book.now in
     let viewed = shown_book s c.args.job.now.views.book c.in-Some.ensures b c.in-Some-locks.ensures in
     file_plan c.args.job.now.workflow c.args.job.now.views c.args.lock.now c.args.key.now c.args.rank.now c.requires (seen s.version b s.tick) viewed
-    record { content = c.of_locks.result; change = File c.in_ok-copy.field-0 c.in_ok-copy-2.field-0 c.in_ok-copy-3.field-0 }
+    record { content = c.in_ok-of_locks.field-0; change = File c.in_ok-copy.field-0 c.in_ok-copy-2.field-0 c.in_ok-copy-3.field-0 }
     (ap (λ x. File x c.in_ok-copy-2.field-0 c.in_ok-copy-3.field-0) c.in_ok-copy.ensures ∙ ap (λ x. File c.args.lock.now x c.in_ok-copy-3.field-0) c.in_ok-copy-2.ensures ∙ ap (λ x. File c.args.lock.now c.args.key.now x) c.in_ok-copy-3.ensures)
-    (c.of_locks.ensures ∙ ap (λ x. OfLocks (law_book x)) c.in_ok-next.ensures)
+    (c.in_ok-of_locks.ensures ∙ ap (λ x. OfLocks (law_book x)) c.in_ok-next.ensures)

@@ -1,6 +1,6 @@
 use Rattle.std.proofs.Common.{◌+◌, ◌-◌, length, refl, sym, subst, arith}
 use Rattle.std.proofs.lemmas.Option.{slice_get_read}
-use Rattle.object_store.specs.Inside.Rows.{StandsIn}
+use Rattle.object_store.specs.Inside.Rows.{StandsIn, row_size}
 use Rattle.object_store.proofs.Places.{get_at, get_later}
 use Rattle.object_store.proofs.line.Line.nearest.Goals as goal
 
@@ -27,5 +27,5 @@ returns-then-at-last_row-3-clause-stands g c = λ ms stands.
     let here = subst (λ r. StandsIn r ms) (sym c.self.view_is) stands in
     let m = c.index-then-at-last_row-3.result.now in
     let start = length s.changes.items - length s.later.items in
-    get_at ms (c.len.result - c.len-2.result - 64) (start - 64) m (omega arith)
+    get_at ms (c.len.result - c.len-2.result - row_size) (start - row_size) m (omega arith)
     (here.row_before m (slice_get_read s.rows.items (length s.rows.items) 1 m refl (omega arith) c.index-then-at-last_row-3.ensures))

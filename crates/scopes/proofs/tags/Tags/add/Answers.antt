@@ -8,6 +8,6 @@ pub returns-clause-ok : goal.returns-clause-ok
 returns-clause-ok c = λ q.
     let entries = c.self.inside.tags.entries in
     ap (λ es. value_in (shown es) q) c.in_ok-insert.ensures.entries
-    ∙ inserted _ (λ a b. refl) entries c.into_string.result c.args.value q
-    ∙ ap (λ t. value_in ((t, c.args.value) ∷ shown entries) q) c.into_string.ensures
+    ∙ inserted _ (λ a b. refl) entries c.in_ok-into_string.field-0 c.args.value q
+    ∙ ap (λ t. value_in ((t, c.args.value) ∷ shown entries) q) c.in_ok-into_string.ensures
     ∙ ap (λ s. value_in ((c.args.tag, c.args.value) ∷ s) q) c.self.view_is

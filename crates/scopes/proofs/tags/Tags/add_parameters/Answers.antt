@@ -12,5 +12,5 @@ loop-left-preserved c =
     let given = subst (λ (n : ℕ). HasValuesOf c.loop-left.self (parameter_tags c.args.prefix.now (drop n c.args.params.now) ++ c.args.self.now)) one c.loop-left.invariant.given in
     record {
       within = omega (arith, c.loop-left.invariant.within);
-      given = given_more c.args.prefix.now c.args.params.now left c.get-param.result.now (string_bytes c.tag.inside.inner) c.in_ok-copy.field-0 c.loop-left.self c.add.new.self c.args.self.now c.get-param.ensures tag c.in_ok-copy.ensures c.in_ok-add.ensures.ok given;
+      given = given_more c.args.prefix.now c.args.params.now left c.get-param.result.now (string_bytes c.tag.inside.inner.value) c.in_ok-copy.field-0 c.loop-left.self c.add.new.self c.args.self.now c.get-param.ensures tag c.in_ok-copy.ensures c.in_ok-add.ensures.ok given;
     }

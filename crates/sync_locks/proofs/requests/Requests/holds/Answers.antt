@@ -5,8 +5,10 @@ use Rattle.books.specs.declared.Request.{Request}
 use Rattle.books.specs.Books.{is_holding}
 use Rattle.books.specs.Laws.{is_of}
 use Rattle.sync_locks.specs.Book.{key_by, state_in, holds}
-use Rattle.sync_locks.specs.Inside.Rows.{is_at, state_of}
+use Rattle.sync_locks.specs.Inside.Rows.{state_of}
 use Rattle.sync_locks.specs.Inside.Queues.{Lists}
+use Rattle.sync_locks.specs.Inside.Holders.{places_in, is_there}
+use Rattle.sync_locks.proofs.Bucketed.{any_there}
 use Rattle.sync_locks.proofs.Places.{none_there}
 use Rattle.sync_locks.proofs.Changes.{request_nowhere, request_placed, within}
 use Rattle.sync_locks.proofs.Holders.{any_listed, held_alone, held_state, holding_not}
@@ -16,10 +18,11 @@ pub returns-then-not-has_many_holders : goal.returns-then-not-has_many_holders
 returns-then-not-has_many_holders c =
     let key = key_by c.args.workflow.now c.args.path.now in
     let rs = c.args.self.now in
-    let holding = c.self.inside.holding.items in
+    let holding = places_in c.self.inside.holding.items in
     c.is_among.ensures
-    ∙ ap (list_any (is_at (is_of key) rs)) c.as_slice.ensures.value
-    ∙ any_listed is_holding (is_of key) holding rs (subst (λ (x : List Request). Lists is_holding holding x) c.self.view_is c.self.invariant.held)
+    ∙ ap (list_any (is_there c.bucket_of-bucket.result (is_of key) rs)) c.as_slice.ensures.value
+    ∙ any_there c.self.inside.asked c.self.inside.states.items rs c.self.invariant.kept.each_stands c.self.view_is key c.bucket_of-bucket.result c.bucket_of-bucket.ensures.is c.self.inside.holding.items c.self.invariant.bucketed
+    ∙ any_listed is_holding (is_of key) holding rs (subst (λ (x : List Request). Lists is_holding holding x) c.self.view_is c.self.invariant.kept.held)
     ∙ held_alone key rs c.requires
 
 pub state-requires : goal.state-requires

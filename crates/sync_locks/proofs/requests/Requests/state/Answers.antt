@@ -5,11 +5,11 @@ use Rattle.sync_locks.proofs.Stands.{length_seen, state_seen}
 use Rattle.sync_locks.proofs.requests.Requests.state.Goals as goal
 
 pub index-requires : goal.index-requires
-index-requires c = omega (arith, c.requires, length_seen c.self.inside.asked c.self.inside.states.items c.args.self.now c.self.invariant.each_stands c.self.view_is)
+index-requires c = omega (arith, c.requires, length_seen c.self.inside.asked c.self.inside.states.items c.args.self.now c.self.invariant.kept.each_stands c.self.view_is)
 
 pub returns : goal.returns
 returns c =
     let states = c.self.inside.states.items in
-    let long = length_seen c.self.inside.asked states c.args.self.now c.self.invariant.each_stands c.self.view_is in
+    let long = length_seen c.self.inside.asked states c.args.self.now c.self.invariant.kept.each_stands c.self.view_is in
     sym (slice_get_read states (length c.args.self.now) c.args.place c.index.result.now (sym long) c.requires c.index.ensures)
-    ∙ state_seen c.self.inside.asked states c.args.self.now c.args.place c.self.invariant.each_stands c.self.view_is
+    ∙ state_seen c.self.inside.asked states c.args.self.now c.args.place c.self.invariant.kept.each_stands c.self.view_is

@@ -1,4 +1,4 @@
-use Rattle.std.proofs.Common.{rules, subst, sym, ap, ◌≡◌, Bool, false, List}
+use Rattle.std.proofs.Common.{subst, sym, ◌≡◌, false, List}
 use Rattle.tree_types.specs.declared.fact.Fact.{Fact}
 use Rattle.tree_types.specs.Journals.{knows}
 use Rattle.tree_types.proofs.Adding.{is_journal-after_push}

@@ -2,7 +2,7 @@
 
 ghost use Rattle.std.specs.Prelude.{◌≡◌, IfOk};
 
-use base_types::{Memory, TryCopy};
+use crate::{Memory, TryCopy};
 use std::alloc::Global;
 use std::marker::Model;
 use std::sync::Arc;
