@@ -1,5 +1,5 @@
 -- What a call makes again, step by step: what it was tells how it goes on.
-use Rattle.std.proofs.Common.{◌≡◌, ℕ, zero, suc, ◌+◌, ◌-◌, ◌≤◌, Bool, true, false, List, [], ◌∷◌, ◌++◌, Option, Some, None, Result, Ok, refl, sym, ap, ◌∙◌, subst, arith}
+use Rattle.std.proofs.Common.{◌≡◌, ℕ, zero, suc, ◌+◌, ◌-◌, ◌≤◌, Bool, true, false, List, [], ◌∷◌, ◌++◌, Option, Some, None, Result, refl, sym, ap, ◌∙◌, subst, arith}
 use Rattle.serde_json.specs.Data.{Data}
 use Rattle.wf_manifest.specs.declared.calls.Argument.{Argument}
 use Rattle.wf_manifest.specs.declared.calls.Hook.{Hook}
@@ -9,7 +9,7 @@ use Rattle.wf_manifest.specs.declared.templates.Memoize.{Memoize}
 use Rattle.wf_manifest.specs.declared.templates.Template.{Template}
 use Rattle.tree_types.specs.Phases.{is_succeeded}
 use Rattle.wf_manifest.specs.declared.manifest.Manifest.{Manifest}
-use Rattle.scopes.specs.Substitution.{Found, Scope}
+use Rattle.scopes.specs.Substitution.{Scope}
 use Rattle.scopes.specs.Values.{HasValuesOf}
 use Rattle.fanout.specs.Items.{items}
 use Rattle.fanout.specs.ItemTexts.{item_tags}

@@ -15,7 +15,7 @@ use Rattle.meaning.specs.Outputs.{Ending, computed, ended_node}
 use Rattle.meaning.specs.Steps.{Caller, Member, Groups, groups_from, steps_phase, steps_by, steps_made}
 use Rattle.tree_state.specs.declared.refused.TreeRefused.{TreeRefused}
 use Rattle.tree_state.specs.declared.refused.TreeRefused.TheVariants.{TooLarge, Memory}
-use Rattle.tree_state.specs.Counting.{count}
+use Rattle.tree_state.specs.Counting.{count, Gives, TakesAll}
 use Rattle.tree_walk.specs.declared.over.Row.{Row}
 use Rattle.tree_walk.specs.declared.over.Group.{Group}
 use Rattle.tree_walk.specs.Walking.{GivesGroup, groups_kept}
@@ -71,3 +71,8 @@ pub steps_done : (called : Caller) (place : Place) (scope : Scope) (declared : L
 steps_done called place scope declared gs front row state before mid after taken given said is =
     let groups = groups_from called place 0 scope gs in
     (is ∙ steps_same place declared row groups said (is_succeeded (steps_phase groups.all)) refl, omega (arith, given.1, taken))
+
+-- there is too little room for what would be given
+pub too_little : (m : Made) (n before after : ℕ) (e : TreeRefused) → n ≡ count m → TakesAll n before after (Err e) → Gives before after (Err e) m
+too_little m n before after TooLarge is small = omega (arith, is, small)
+too_little m n before after Memory is small = tt

@@ -67,7 +67,7 @@ module _ (m : Manifest) (A : Answers) (old : Made) (rest : Sels) (result : Resul
       SameBut A B changed → changed ≡ group.sels ++ rest → old ≡ group_made group (members (calls m B g left) group scope cs) →
       IfGiven result (λ z. (z ≡ group_made group (members (calls m A g left) group scope cs)) × IsRunning z)
 
-  -- a DAG of which a task runs on: it runs itself, and ran
+  -- a DAG that runs on, and ran
   abbrev pub DagChanges : Dag → Type 0
   DagChanges d =
       (B : Answers) (changed : Sels) (g : Scope) (left : ℕ) (place : Place) (scope : Scope) (declared : List OutputDecl) →

@@ -16,7 +16,7 @@ use crate::leaf::{
     split,
 };
 use base_types::{Memory, Text};
-use dag_stays::call_of_task;
+use dag_stays::{call_of_task, is_unseen};
 use meaning::Place;
 use recorded::Recorded;
 use tree_state::State;
@@ -236,7 +236,7 @@ impl<R: Recorded> Change<'_, R> {
         Ok(Some(state))
     }
 
-    // A DAG of which a task runs on, though a call below the task may end: no other task sees anything of it.
+    // A DAG that runs on, and of which no other task sees what one makes: that runs on, or ends where none waits for it.
     #[cycle(change)]
     fn dag(&self, old: &State, dag: &Dag, rest: &[Sel]) -> Result<Option<State>, Memory>
         requires ready { IsReady self.now.manifest.now self.now.positions.now }
@@ -264,10 +264,14 @@ impl<R: Recorded> Change<'_, R> {
         let Some(new) = self.call(made, &task.call, others)? else {
             return Ok(None);
         };
-        if new.is_finished() {
+        if !is_unseen(dag, task, &new) {
             return Ok(None);
         }
-        Ok(Some(old.with_call(at, new)?))
+        let state = old.with_call(at, new)?;
+        if state.all_finished() {
+            return Ok(None);
+        }
+        Ok(Some(state))
     }
 
     // Whether nothing keeps a task from its beginning, by what it made before.

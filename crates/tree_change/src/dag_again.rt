@@ -84,6 +84,36 @@ impl<R: Recorded> Again<'_, R> {
             Gives room.old room.new result
             (dags.dag_made A (calls_now R.answers self.now left) place scope.now declared.now dag.now) }
     {
+        if let Some(state) = self.begun_alone(&place, scope, dag, old, j, rest, left)? {
+            room.take_all(state.count())?;
+            return Ok(state);
+        }
+        self.other_dag(place, scope, declared, dag, old, j, rest, left, room)
+    }
+
+    // A DAG whose tasks are gone through, where the path goes down into its task `j`.
+    #[cycle(again)]
+    fn other_dag(
+        &self,
+        place: Place,
+        scope: &Scope,
+        declared: &OutputDecls,
+        dag: &Dag,
+        old: &State,
+        j: u32,
+        rest: &[Sel],
+        left: u32,
+        room: &mut Room,
+    ) -> Result<State, TreeRefused>
+        requires resumes { Resumes R.answers self.now (place.sels ++ sels.Task j ∷ rest.now) }
+        requires walkable { IsWalkableDag dag.now }
+        requires shallow { place.depth + 5 * left + 8 < 1000 }
+        requires was { let B = R.answers self.now.before.now in
+            old.now ≡ dags.dag_made B (calls_before R.answers self.now left) place scope.now declared.now dag.now }
+        ensures { let A = R.answers self.now.walk.recorded.now in
+            Gives room.old room.new result
+            (dags.dag_made A (calls_now R.answers self.now left) place scope.now declared.now dag.now) }
+    {
         room.take()?;
         let alloc = self.walk.alloc();
         let plan = DagPlan::new(alloc, dag)?;

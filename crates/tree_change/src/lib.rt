@@ -2,6 +2,7 @@
 #![tactic(auto)]
 
 mod again;
+mod beginning;
 mod change;
 mod dag_again;
 mod front;

@@ -7,3 +7,4 @@ pub mod Tellings
 mod Found
 pub mod Readings
 mod Chunks
+mod Begins

@@ -33,7 +33,7 @@ ask_then : (k : WantKind) (a b : List Line) → ask_for k (a ++ b) ≡ (ask_for 
 ask_then k a b =
     ap (λ (ws : List Want). list_any (is_of k) ws) (filter_append want_in a b) ∙ list_any-append (is_of k) (wants_in a) (wants_in b)
 
-begin_then : (a b : List Line) → let_begin (a ++ b) ≡ (let_begin a || let_begin b)
+pub begin_then : (a b : List Line) → let_begin (a ++ b) ≡ (let_begin a || let_begin b)
 begin_then a b =
     let is_there : Path → Bool = λ p. true in
     ap (λ (ps : List Path). list_any is_there ps) (filter_append beginning_in a b) ∙ list_any-append is_there (beginnings_in a) (beginnings_in b)

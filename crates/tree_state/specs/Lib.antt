@@ -1,4 +1,5 @@
 pub mod Asking
+pub mod Beginning
 pub mod Counting
 pub mod CountsNodes
 pub mod Finding

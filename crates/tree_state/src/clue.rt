@@ -26,7 +26,7 @@ impl NodeTest for Clue<'_> {
     }
 }
 
-fn same_sels(a: &[Sel], b: &[Sel]) -> bool
+pub(crate) fn same_sels(a: &[Sel], b: &[Sel]) -> bool
     ensures { result ≡ sels_eq a.now b.now }
 {
     a == b

@@ -1,6 +1,7 @@
 //! What a call makes, kept as a tree of shared parts: its node, what it asks for, and what stands below it.
 #![tactic(auto)]
 
+mod beginning;
 mod below;
 mod chunk;
 mod clue;

@@ -283,7 +283,13 @@ impl State {
     pub fn with_call(&self, position: usize, call: State) -> Result<State, Memory>
         ensures { IfOk result (λ state. state ≡ with_call self.now position call) }
     {
-        let below = self.below.with_call(position, call)?;
+        self.over(self.below.with_call(position, call)?)
+    }
+
+    // The same node, with something else below it.
+    pub(crate) fn over(&self, below: Below) -> Result<State, Memory>
+        ensures { IfOk result (λ state. state ≡ record self.now { parts = below }) }
+    {
         let node = self.node.copy()?;
         let wants = self.wants.copy()?;
         Ok(State {
@@ -445,6 +451,26 @@ impl Kid {
             None => Ok(None),
             Some(state) => Ok(Some(Arc::try_clone(state)?)),
         }
+    }
+
+    // The same kid, which shares its line and its call with this one.
+    pub(crate) fn shared(&self) -> Result<Kid, Memory>
+        ensures { IfOk result (λ kid. (more : Parts) → kid_before kid more ≡ kid_before self.now more) }
+    {
+        Ok(Kid {
+            line: self.own_line()?,
+            state: self.own_state()?,
+        })
+    }
+
+    // What its call made, without a line before it.
+    pub(crate) fn without_line(&self) -> Result<Kid, Memory>
+        ensures { IfOk result (λ kid. (more : Parts) → kid_before kid more ≡ state_then self.now.state more) }
+    {
+        Ok(Kid {
+            line: None,
+            state: self.own_state()?,
+        })
     }
 
     // The kid, or the call in its place where it is the one to be replaced: the one behind so many calls that are left.

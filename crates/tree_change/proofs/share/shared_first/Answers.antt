@@ -1,5 +1,5 @@
 -- Calls that are shared, one after the other.
-use Rattle.std.proofs.Common.{◌+◌, [], ◌∷◌, ◌++◌, take, ◌∙◌, arith}
+use Rattle.std.proofs.Common.{[], ◌∷◌, ◌++◌, take, ◌∙◌, arith}
 use Rattle.tree_walk.specs.Walking.{GivesRow}
 use Rattle.tree_walk.proofs.Rooms.{by_err}
 use Rattle.tree_change.proofs.Sharing.{row_fails_at, take_next, room_next}

@@ -10,7 +10,7 @@ use Rattle.meaning.specs.Lines.{Made, row_in}
 use Rattle.meaning.specs.Steps.{Member, members, member_place, group_place, group_made, groups_from, steps_made}
 use Rattle.meaning.specs.Calls.{looped, template_made, hooked, saving, calls}
 use Rattle.locality.proofs.OffPath.{apart_on_way}
-use Rattle.tree_state.specs.Counting.{Gives}
+use Rattle.tree_state.specs.Counting.{Gives, count}
 use Rattle.tree_walk.specs.Walkable.{IsNamed}
 use Rattle.tree_walk.specs.Walking.{label_of, prefix_of}
 use Rattle.tree_change.specs.Inside.Groups.{KeepsGroup, KeepsFront, IsSaid, first_groups}
@@ -20,8 +20,7 @@ use Rattle.wf_manifest.specs.declared.calls.Call.{Call}
 use Rattle.tree_change.proofs.Beside.{same_below, groups_were, all_at}
 use Rattle.tree_change.proofs.Calling.{alike, called_enters, item_done, hooked_longer, count_saving, one_again, one_was, looped_was, looped_again, template_was, item_was}
 use Rattle.tree_change.proofs.Changing.{steps_template_again, steps_template_saved, dag_were, dag_template_again, dag_template_saved}
-use Rattle.tree_walk.proofs.Groups.{turn}
-use Rattle.tree_change.proofs.Keeping.{group_keeps, steps_done}
+use Rattle.tree_change.proofs.Keeping.{group_keeps, steps_done, too_little}
 use Rattle.tree_change.proofs.Passing.{call_low, front_fails, front_shared, front_alone, front_went, front_long, group_stood, members_seen, group_fails, next_front, next_went, next_long, next_room, last_front, groups_end}
 use Rattle.tree_change.proofs.Placing.{item_told, item_had, item_fails, item_put, items_listed, items_fail, member_low, member_had, member_fails, member_put, members_listed, members_fail}
 use Rattle.tree_walk.proofs.Rooms.{gives_as, by_err, part_fails, few_in_row}
@@ -35,6 +34,7 @@ use Rattle.tree_walk.specs.Inside.Tasks.{stood_count, count_at, GivesTask, Gives
 use Rattle.tree_walk.proofs.Tasks.{got, is_low, task_waits, stands_free, task_omitted, task_no_room, task_ready, task_begun, task_fails, tasks_next, tasks_fail}
 use Rattle.tree_walk.proofs.Dags.{named_at, dag_fails, dag_done}
 use Rattle.tree_change.proofs.Tasks.{walkable_dag, begins_now, had_begun, stays_as, inner_as, same_inside, was_inside}
+use Rattle.tree_change.proofs.Given.{given_some}
 use Rattle.tree_change.proofs.again.Again.+again.Goals as goal
 
 -- ---- calls
@@ -529,16 +529,38 @@ missed_dag-returns g t c =
       omega (arith, count_saving c.args.place c.args.memoize.now c.args.key b, given.1),
     )
 
-pub dag-tasks-requires : goal.dag-tasks-requires
-dag-tasks-requires g t c κs within =
+pub dag-other_dag-requires : goal.dag-other_dag-requires
+dag-other_dag-requires g t c κs within = (omega arith, (within, (c.requires.resumes, (c.requires.walkable, (c.requires.shallow, c.requires.was)))))
+
+pub dag-returns-in_err-take_all : goal.dag-returns-in_err-take_all
+dag-returns-in_err-take_all g t c =
+    let m = c.args.self.now.walk.manifest.now in
+    let A = g.R.Recorded.answers c.args.self.now.walk.recorded.now in
+    let scopes = c.args.self.now.walk.globals.now in
+    let whole = dag_made A (calls m A scopes c.args.left) c.args.place c.args.scope.now c.args.declared.now c.args.dag.now in
+    let made : c.in-Some.state ≡ whole = given_some c.in_ok-state.field-0 c.in-Some.state (λ y. y ≡ whole) c.in-Some.is (c.in_ok-state.ensures c.args.declared.now c.requires.was) in
+    by_err (λ r. Gives c.args.room.now c.take_all.new.self r whole) c.from_residual-in_err-take_all.result c.in_err-take_all.field-0.0 c.from_residual-in_err-take_all.ensures.1
+    (too_little whole c.count.result c.args.room.now c.take_all.new.self c.in_err-take_all.field-0.0 (c.count.ensures.all ∙ ap count made) c.in_err-take_all.ensures.takes)
+
+pub dag-returns-in-Some : goal.dag-returns-in-Some
+dag-returns-in-Some g t c =
+    let m = c.args.self.now.walk.manifest.now in
+    let A = g.R.Recorded.answers c.args.self.now.walk.recorded.now in
+    let scopes = c.args.self.now.walk.globals.now in
+    let whole = dag_made A (calls m A scopes c.args.left) c.args.place c.args.scope.now c.args.declared.now c.args.dag.now in
+    let made : c.in-Some.state ≡ whole = given_some c.in_ok-state.field-0 c.in-Some.state (λ y. y ≡ whole) c.in-Some.is (c.in_ok-state.ensures c.args.declared.now c.requires.was) in
+    (made, omega (arith, c.in_ok-take_all.ensures.takes, c.count.ensures.all, ap count made))
+
+pub other_dag-tasks-requires : goal.other_dag-tasks-requires
+other_dag-tasks-requires g t c κs within =
     let m = c.args.self.now.walk.manifest.now in
     let B = g.R.Recorded.answers c.args.self.now.before.now in
     let scopes = c.args.self.now.walk.globals.now in
     let were = c.in_ok-were.ensures m B scopes c.args.left c.args.place c.args.scope.now c.args.declared.now (c.in_ok-before.ensures ∙ ap (λ (b : Made). row_in b.parts) c.requires.was) c.len.ensures in
     (omega arith, (within, (c.requires.resumes, (c.requires.walkable, (c.in_ok-plan.ensures, (c.requires.shallow, were))))))
 
-pub dag-returns-in_err-board : goal.dag-returns-in_err-board
-dag-returns-in_err-board g t c =
+pub other_dag-returns-in_err-board : goal.other_dag-returns-in_err-board
+other_dag-returns-in_err-board g t c =
     let m = c.args.self.now.walk.manifest.now in
     let A = g.R.Recorded.answers c.args.self.now.walk.recorded.now in
     let scopes = c.args.self.now.walk.globals.now in
@@ -547,11 +569,11 @@ dag-returns-in_err-board g t c =
     by_err (λ r. Gives c.args.room.now c.tasks.new.room r whole) c.from_residual-in_err-board.result c.in_err-board.field-0.0 c.from_residual-in_err-board.ensures.1
     (dag_fails A called c.args.place c.args.scope.now c.args.dag.now c.args.declared.now c.in_ok-plan.plan c.args.room.now c.take.new.self c.tasks.new.room c.in_err-board.field-0.0 c.in_ok-plan.ensures c.in_ok-take.ensures.takes c.in_err-board.ensures)
 
-pub dag-made-requires-clause-named : goal.dag-made-requires-clause-named
-dag-made-requires-clause-named g t c = named_at c.args.dag.now.tasks c.requires.walkable.named
+pub other_dag-made-requires-clause-named : goal.other_dag-made-requires-clause-named
+other_dag-made-requires-clause-named g t c = named_at c.args.dag.now.tasks c.requires.walkable.named
 
-pub dag-returns : goal.dag-returns
-dag-returns g t c =
+pub other_dag-returns : goal.other_dag-returns
+other_dag-returns g t c =
     let m = c.args.self.now.walk.manifest.now in
     let A = g.R.Recorded.answers c.args.self.now.walk.recorded.now in
     let scopes = c.args.self.now.walk.globals.now in

@@ -66,10 +66,13 @@ abbrev pub decreases-other : goal.decreases-other
 decreases-other g l = 32 * l.left + 11
 
 abbrev pub decreases-missed_dag : goal.decreases-missed_dag
-decreases-missed_dag g l = 32 * l.left + 9
+decreases-missed_dag g l = 32 * l.left + 10
 
 abbrev pub decreases-dag : goal.decreases-dag
-decreases-dag g l = 32 * l.left + 8
+decreases-dag g l = 32 * l.left + 9
+
+abbrev pub decreases-other_dag : goal.decreases-other_dag
+decreases-other_dag g l = 32 * l.left + 8
 
 abbrev pub decreases-tasks : goal.decreases-tasks
 decreases-tasks g l = 32 * l.left + 7

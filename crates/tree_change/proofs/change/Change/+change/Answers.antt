@@ -13,6 +13,7 @@ use Rattle.meaning.specs.Calls.{template_named, hook_runs, template_made, one_ma
 use Rattle.tree_types.specs.Places.{sels_eq}
 use Rattle.growth.proofs.RoundsSettle.{rounds_settle}
 use Rattle.locality.proofs.OffPath.{apart_on_way}
+use Rattle.dag_stays.specs.Unseen.{IsUnseen}
 use Rattle.dag_stays.proofs.RunsOn.{dag_was_running, dag_runs_on}
 use Rattle.tree_change.specs.Entered.{IsRunning}
 use Rattle.tree_change.proofs.Changing.{steps_were, group_changes, steps_change, steps_template_changes, dag_were, dag_template_changes, one_changes, call_changes, loop_changes}
@@ -96,13 +97,14 @@ dag-returns g t c B changed g' left place scope declared same way is =
     let z = c.in-Some-2.new in
     let here = begins changed place.sels c.in-Some.first (task_sel j) c.args.rest.now others way c.in-Some.ensures c.in-Task.is in
     let off : one.own.finished ≡ false = sym c.is_finished.ensures ∙ c.if-is_finished.false in
-    let off_now : z.own.finished ≡ false = sym c.is_finished-2.ensures ∙ c.if-is_finished-2.false in (
-      c.in_ok-with_call.ensures
+    let unseen : IsUnseen d task z = c.if-not-is_unseen.ensures refl in
+    let goes_on = sym (ap (λ (b : Made). all_finished (row_in b.parts)) c.in_ok-state.ensures) ∙ sym c.all_finished.ensures ∙ c.if-all_finished.false in (
+      c.in_ok-state.ensures
           ∙ sym (dag_runs_on m A B changed same g' left rounds_settle place scope declared d c.requires.ranked at j others old one z task here is (sym c.in-Some-item_at.ensures)
-          c.in-Some-call_of_task.ensures.call c.in-Some-call_of_task.ensures.task off off_now (sym c.has_begun.ensures ∙ c.if-not-has_begun.false)
+          c.in-Some-call_of_task.ensures.call c.in-Some-call_of_task.ensures.task off unseen goes_on (sym c.has_begun.ensures ∙ c.if-not-has_begun.false)
           (λ s was. sym (given_some c.in_ok-new.field-0 z (λ y. y ≡ calls m A g' left (codes "tasks.") (task_place place j task) (s ++ scope) task.call) c.in-Some-2.is
           (c.in_ok-new.ensures B changed g' left (codes "tasks.") (task_place place j task) (s ++ scope) same (further changed place.sels (task_sel j) others here) was)))),
-      ap (λ (b : Made). b.own.node.phase) c.in_ok-with_call.ensures
+      ap (λ (b : Made). b.own.node.phase) c.in_ok-state.ensures
           ∙ dag_was_running m A B changed same g' left rounds_settle place scope declared d c.requires.ranked at j old one is c.in-Some-call_of_task.ensures.call c.in-Some-call_of_task.ensures.task off,
       apart_on_way A B changed same place.sels others (task_sel j) here,
     )
