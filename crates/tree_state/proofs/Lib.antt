@@ -1,6 +1,7 @@
 pub mod Counts
 mod Kids
 mod Firsts
+pub mod OfKind
 pub mod Positions
 mod Sums
 pub mod Tellings

@@ -3,59 +3,42 @@ use Rattle.std.proofs.Common.{◌≡◌, ℕ, suc, ◌+◌, ◌^◌, ◌<◌, �
 use Rattle.std.specs.Prelude.{◌&&◌, nat_le}
 use Rattle.std.specs.Option.{option_or}
 use Rattle.std.proofs.lemmas.Bool.{lt-leb}
-use Rattle.std.proofs.lemmas.List.{append-nil}
-use Rattle.std.proofs.lemmas.List.Elements.{filter-append}
 use Rattle.std.specs.declared.sync.Arc.{Arc}
 use Rattle.std.specs.declared.alloc.Global.{Global}
 use Rattle.tree_types.specs.declared.want.Want.{Want}
 use Rattle.meaning.specs.declared.lines.Line.{Line}
 use Rattle.meaning.specs.Lines.{nothing, Made, lines_below, lines_in}
-use Rattle.meaning.specs.Trees.{want_in, wants_in}
 use Rattle.tree_state.specs.declared.kinds.WantKind.TheVariants.{Pod}
 use Rattle.tree_state.specs.declared.state.Line.{Line as Line'}
 use Rattle.tree_state.specs.declared.state.Kid.{Kid}
-use Rattle.tree_state.specs.Asking.{is_of}
 use Rattle.tree_state.specs.Finding.{pods_in, found_at}
 use Rattle.tree_state.specs.Inside.Kids.{line_then, state_then, kid_parts, parts_of}
-use Rattle.tree_state.proofs.Firsts.{asked_first, kids_read}
-use Rattle.tree_state.proofs.Kids.{from_here}
-use Rattle.tree_state.proofs.Tellings.{filter_append, kid_lines}
+use Rattle.tree_state.proofs.Firsts.{kids_read}
+use Rattle.tree_state.proofs.OfKind.{among, kind_then, kind_from, kind_over, kind_of_kid, kind_of_call}
 
 abbrev pub pods_among : List Line → List Want
-pods_among ls = pods_in (wants_in ls)
-
-pods_more : (a b : List Want) → pods_in (a ++ b) ≡ pods_in a ++ pods_in b
-pods_more a b = filter-append (is_of Pod) a b
-
--- ---- pods, and those behind them
+pods_among ls = among Pod ls
 
 pub pods_then : (a b : List Line) → pods_among (a ++ b) ≡ pods_among a ++ pods_among b
-pods_then a b = ap (λ (ws : List Want). pods_in ws) (filter_append want_in a b) ∙ pods_more (wants_in a) (wants_in b)
+pods_then a b = kind_then Pod a b
 
--- one want of a list, and those behind it
 pub pods_from : (ws : List Want) (i : ℕ) (w : Want) → i < length ws → w ≡ get_or ws i w → pods_in (drop i ws) ≡ pods_in (w ∷ []) ++ pods_in (drop (i + 1) ws)
-pods_from ws i w lt is = ap (λ (vs : List Want). pods_in vs) (from_here ws i w lt is) ∙ pods_more (w ∷ []) (drop (i + 1) ws)
+pods_from ws i w lt is = kind_from Pod ws i w lt is
 
 -- a kid, and those behind it
 pub kids_from : (kids : List Kid) (i : ℕ) (k : Kid) → i < length kids → k ≡ get_or kids i k →
     pods_among (lines_below (parts_of (drop i kids))) ≡ pods_among (lines_below (kid_parts k)) ++ pods_among (lines_below (parts_of (drop (i + 1) kids)))
 kids_from = kids_read (λ (a b : List Want). a ++ b) pods_among pods_then
 
--- those of a node, and those below it
 pub pods_over : (m : Made) → pods_among (lines_in m) ≡ pods_in m.own.wants ++ pods_among (lines_below m.parts)
-pods_over m = ap (λ (ws : List Want). pods_in ws) (asked_first m.own.wants (lines_below m.parts)) ∙ pods_more m.own.wants (wants_in (lines_below m.parts))
+pods_over m = kind_over Pod m
 
--- that of a kid's own line, and those of its call
 pub pods_of_kid : (l : Option (Arc Line' Global)) (s : Option (Arc Made Global)) →
     pods_among (lines_below (line_then l (state_then s nothing))) ≡ pods_among (lines_below (line_then l nothing)) ++ pods_among (lines_below (state_then s nothing))
-pods_of_kid l s = ap pods_among (kid_lines l None (state_then s nothing)) ∙ pods_then (lines_below (line_then l nothing)) (lines_below (state_then s nothing))
+pods_of_kid l s = kind_of_kid Pod l s
 
 pub pods_of_call : (s : Arc Made Global) → pods_among (lines_below (state_then (Some s) nothing)) ≡ pods_among (lines_in s.value)
-pods_of_call s = ap pods_among (append-nil (lines_in s.value))
-
--- both together are counted
-pub both_counted : (ws a b : List Want) (m n : ℕ) → ws ≡ a ++ b → m ≡ length a → n ≡ length b → m + n ≡ length ws
-both_counted ws a b m n is first second = omega (arith, ap (λ (vs : List Want). length vs) is, length-append a b, first, second)
+pods_of_call s = kind_of_call Pod s
 
 -- ---- found from a position on
 

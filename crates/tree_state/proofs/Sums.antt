@@ -26,7 +26,7 @@ use Rattle.tree_state.specs.Counting.{count_below}
 use Rattle.tree_state.specs.Inside.Sums.{let_begin, asks_in, both_ask, sum_of, sum_with}
 use Rattle.tree_state.proofs.Counts.{count_then}
 use Rattle.tree_state.proofs.Kids.{kid_then, pushed}
-use Rattle.tree_state.proofs.Positions.{pods_among, pods_then}
+use Rattle.tree_state.proofs.OfKind.{among, kind_then}
 use Rattle.tree_state.proofs.Tellings.{filter_append}
 
 ask_then : (k : WantKind) (a b : List Line) → ask_for k (a ++ b) ≡ (ask_for k a || ask_for k b)
@@ -50,13 +50,20 @@ asks_then a b = λ i. record {
   beginnings = begin_then a b i;
 }
 
+counts_then : (k : WantKind) (p q : Parts) → length (among k (lines_below (then_parts p q))) ≡ length (among k (lines_below p)) + length (among k (lines_below q))
+counts_then k p q =
+    ap (λ (ls : List Line). length (among k ls)) (lines_then p q)
+    ∙ ap (λ (ws : List Want). length ws) (kind_then k (lines_below p) (lines_below q))
+    ∙ length-append (among k (lines_below p)) (among k (lines_below q))
+
 -- parts behind others
 pub sum_then : (p q : Parts) → sum_of (then_parts p q) ≡ sum_with (sum_of p) (sum_of q)
 sum_then p q = λ i. record {
   nodes = count_then p q i;
   calls = (ap (λ (ms : List Made). length ms) (row_in_then p q) ∙ length-append (row_in p) (row_in q)) i;
   finished = (ap (λ (ms : List Made). all_finished ms) (row_in_then p q) ∙ list_all-append (λ (m : Made). m.own.finished) (row_in p) (row_in q)) i;
-  pods = (ap (λ (ls : List Line). length (pods_among ls)) (lines_then p q) ∙ ap (λ (ws : List Want). length ws) (pods_then (lines_below p) (lines_below q)) ∙ length-append (pods_among (lines_below p)) (pods_among (lines_below q))) i;
+  pods = counts_then Pod p q i;
+  locks = counts_then Lock p q i;
   asks = (ap asks_in (lines_then p q) ∙ asks_then (lines_below p) (lines_below q)) i;
 }
 

@@ -9,7 +9,7 @@ use Rattle.meaning.specs.declared.lines.Line.{Line}
 use Rattle.meaning.specs.Lines.{Made, lines_in}
 use Rattle.meaning.specs.Trees.{nodes_in}
 use Rattle.tree_state.specs.declared.kinds.WantKind.{WantKind}
-use Rattle.tree_state.specs.declared.kinds.WantKind.TheVariants.{Pod}
+use Rattle.tree_state.specs.declared.kinds.WantKind.TheVariants.{Pod, Lock}
 use Rattle.tree_state.specs.declared.clue.Clue.{Clue}
 use Rattle.tree_state.specs.declared.clue.Clue.TheVariants as clue
 use Rattle.tree_state.specs.Asking.{is_of}
@@ -17,6 +17,12 @@ use Rattle.tree_state.specs.Asking.{is_of}
 -- a want is of a kind, and passes a test
 abbrev pub passes : WantKind → (Want → Bool) → Want → Bool
 passes k accepts w = is_of k w && accepts w
+
+-- ---- locks
+
+-- those of kind Lock
+abbrev pub locks_in : List Want → List Want
+locks_in ws = filter (is_of Lock) ws
 
 -- ---- pods
 

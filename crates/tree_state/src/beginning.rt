@@ -9,6 +9,7 @@ ghost use Rattle.tree_state.specs.Inside.Kids.{state_then, kid_before};
 
 use crate::chunk::Chunk;
 use crate::clue::same_sels;
+use crate::filled::Filled;
 use crate::state::{Kid, Line};
 use crate::sum::Sum;
 use crate::{Below, State};
@@ -137,9 +138,9 @@ fn shared_or_begun(
     Ok(Arc::new(chunk.allocator(), chunk.or_begun(path, call)?)?)
 }
 
-impl Below {
-    /// The same where the task of this path has begun, with the call in its place; None where no such task may begin.
-    fn with_begun(&self, path: &Path, call: State) -> Result<Option<Below>, Memory>
+impl Filled {
+    // The same where the task of this path has begun, with the call in its place; None where no such task may begin.
+    fn with_begun(&self, path: &Path, call: State) -> Result<Option<Filled>, Memory>
         ensures { IfOk result (λ found. found ≡ begun self.now path.now call) }
     {
         if !self.sum.asks.beginnings {
@@ -160,6 +161,28 @@ impl Below {
             return Ok(None);
         }
         let sum = sum.and(last.sum())?;
-        Ok(Some(Below { full, last, sum }))
+        Ok(Some(Filled { full, last, sum }))
+    }
+}
+
+impl Below {
+    /// The same where the task of this path has begun, with the call in its place; None where no such task may begin.
+    fn with_begun(&self, path: &Path, call: State) -> Result<Option<Below>, Memory>
+        ensures { IfOk result (λ found. found ≡ begun self.now path.now call) }
+    {
+        match &self.filled {
+            None => Ok(None),
+            Some(filled) => self.or_none(filled.with_begun(path, call)?),
+        }
+    }
+
+    // The same, put behind a box, where there is anything.
+    fn or_none(&self, filled: Option<Filled>) -> Result<Option<Below>, Memory>
+        ensures { IfOk result (λ below. below ≡ filled) }
+    {
+        match filled {
+            None => Ok(None),
+            Some(filled) => Ok(Some(Below::of(self.alloc, filled)?)),
+        }
     }
 }

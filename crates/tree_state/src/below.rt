@@ -7,14 +7,13 @@ ghost use Rattle.meaning.specs.Lines.{nothing, may_begin, asks, row_of, row_in, 
 ghost use Rattle.meaning.specs.Trees.{nodes_in, wants_in, beginnings_in};
 ghost use Rattle.tree_state.specs.Asking.{is_of, first};
 ghost use Rattle.tree_state.specs.Counting.{count_below};
-ghost use Rattle.tree_state.specs.Finding.{passes, next_tick, pods_in, found_at};
+ghost use Rattle.tree_state.specs.Finding.{passes, next_tick, pods_in, locks_in, found_at};
 ghost use Rattle.tree_state.specs.Replacing.{call_at, replaced, some_succeeded, all_fell};
 ghost use Rattle.tree_state.specs.Telling.{told_with};
 ghost use Rattle.tree_state.specs.Inside.Kids.{own_line, kid_parts};
 ghost use Rattle.tree_state.specs.Inside.Sums.{sum_of};
 
-use crate::chunk::{Chunk, shared_or_replaced};
-use crate::finding::sooner;
+use crate::filled::Filled;
 use crate::state::{Kid, Line};
 use crate::sum::Sum;
 use crate::{NodeTest, Shared, State, Told, WantKind, WantTest};
@@ -24,13 +23,13 @@ use std::marker::Model;
 use std::sync::Arc;
 use tree_types::{Node, Path, Want};
 
-/// What stands below a node, in tree order: chunks that versions of the node share, and what was added behind them.
+/// What stands below a node, in tree order. It is behind a box, and where nothing stands there is no box: most nodes are pods, with
+/// nothing below, and each move of a state would copy the room of what they lack.
 #[cycle(state)]
 #[derive(Debug)]
 pub struct Below {
-    pub(crate) full: Vec<Arc<Chunk>>,
-    pub(crate) last: Chunk,
-    pub(crate) sum: Sum,
+    pub(crate) filled: Option<Box<Filled>>,
+    pub(crate) alloc: Global,
 }
 
 // Written out, so that proofs about code that drops what stands below a node see one call.
@@ -38,37 +37,32 @@ impl Drop for Below {
     #[cycle(state)]
     fn drop(self) {
         let Below {
-            full: _,
-            last: _,
-            sum: _,
+            filled: _,
+            alloc: _,
         } = self;
     }
 }
 
 impl Model for Below {
     ghost use Rattle.std.specs.Prelude.{◌≡◌};
-    ghost use Rattle.meaning.specs.Lines.{Parts, then_parts};
+    ghost use Rattle.meaning.specs.Lines.{Parts};
     ghost use Rattle.tree_state.specs.MadeCode.{parts_code};
 
     ghost Value = { Parts };
 
     ghost coded = { parts_code };
 
-    ghost use Rattle.tree_state.specs.Inside.Chunks.{all_of};
-    ghost use Rattle.tree_state.specs.Inside.Sums.{sum_of};
+    ghost use Rattle.tree_state.specs.Inside.Chunks.{in_box};
 
-    ghost view = { λ a. then_parts (all_of a.full.items) a.last };
-
-    ghost invariant = { λ a. a.sum ≡ sum_of (then_parts (all_of a.full.items) a.last) };
+    ghost view = { λ a. in_box a.filled };
 
     ghost use Rattle.tree_state.specs.Inside.Sizes.{below_size};
 
     ghost size = { below_size };
 
     ghost use Rattle.std.proofs.Common.{arith};
-    ghost use Rattle.tree_state.specs.Inside.LowerChunks.{chunks_are_lower, both_counted};
 
-    ghost size_decreases = { λ a h. Prim.omega (arith, chunks_are_lower a.full.items, both_counted (all_of a.full.items) a.last) };
+    ghost size_decreases = { λ a h. Prim.grind arith };
 }
 
 impl Below {
@@ -77,10 +71,17 @@ impl Below {
         ensures { result ≡ nothing }
     {
         Below {
-            full: Vec::new(alloc),
-            last: Chunk::new(alloc),
-            sum: Sum::nothing(),
+            filled: None,
+            alloc,
         }
+    }
+
+    // The same, put behind a box.
+    pub(crate) fn of(alloc: Global, filled: Filled) -> Result<Below, Memory>
+        ensures { IfOk result (λ below. below ≡ filled) }
+    {
+        let filled = Some(Box::new(alloc, filled)?);
+        Ok(Below { filled, alloc })
     }
 
     /// Adds what a call made.
@@ -114,48 +115,26 @@ impl Below {
     fn line(&mut self, line: Line) -> Result<(), Memory>
         ensures { OnOk result (self.new ≡ then_parts self.old (own_line line nothing)) }
     {
-        let alloc = *self.full.allocator();
-        let line = Some(Arc::new(alloc, line)?);
+        let line = Some(Arc::new(self.alloc, line)?);
         self.add(Kid { line, state: None })
     }
 
     pub(crate) fn add(&mut self, kid: Kid) -> Result<(), Memory>
         ensures { OnOk result (self.new ≡ then_parts self.old (kid_parts kid)) }
     {
-        self.make_room()?;
-        self.put(kid)
-    }
-
-    fn make_room(&mut self) -> Result<(), Memory>
-        ensures { self.new ≡ self.old }
-    {
-        if self.last.is_full() {
-            self.seal()
-        } else {
-            Ok(())
+        match &mut self.filled {
+            None => self.add_first(kid),
+            Some(filled) => filled.add(kid),
         }
     }
 
-    // Adds to the last chunk.
-    fn put(&mut self, kid: Kid) -> Result<(), Memory>
-        ensures { OnOk result (self.new ≡ then_parts self.old (kid_parts kid)) }
+    // What stands below the node is the kid alone.
+    fn add_first(&mut self, kid: Kid) -> Result<(), Memory>
+        ensures { OnOk result (self.new ≡ kid_parts kid) }
     {
-        let more = kid.sum()?;
-        let sum = self.sum.and(more)?;
-        self.last.add(kid)?;
-        self.sum = sum;
-        Ok(())
-    }
-
-    // The last chunk goes to the others, and an empty one comes in its place.
-    fn seal(&mut self) -> Result<(), Memory>
-        ensures { self.new ≡ self.old }
-    {
-        let alloc = *self.full.allocator();
-        let copy = self.last.copy()?;
-        let last = Arc::new(alloc, copy)?;
-        self.full.push(last)?;
-        self.last = Chunk::new(alloc);
+        let mut filled = Filled::new(self.alloc);
+        filled.add(kid)?;
+        self.filled = Some(Box::new(self.alloc, filled)?);
         Ok(())
     }
 
@@ -164,7 +143,7 @@ impl Below {
         ensures all { result ≡ count_below self.now }
         ensures few { result < 2 ^ 32 }
     {
-        self.sum.nodes as usize
+        self.sum().nodes as usize
     }
 
     /// For how many pods is asked there.
@@ -172,177 +151,149 @@ impl Below {
         ensures all { result ≡ length (pods_in (wants_in (lines_below self.now))) }
         ensures few { result < 2 ^ 32 }
     {
-        self.sum.pods as usize
+        self.sum().pods as usize
+    }
+
+    /// For how many locks is asked there.
+    pub(crate) fn locks(&self) -> usize
+        ensures all { result ≡ length (locks_in (wants_in (lines_below self.now))) }
+        ensures few { result < 2 ^ 32 }
+    {
+        self.sum().locks as usize
     }
 
     /// How many calls stand there.
     pub(crate) fn calls(&self) -> usize
         ensures { result ≡ length (row_in self.now) }
     {
-        self.sum.calls as usize
+        self.sum().calls as usize
     }
 
     /// What is kept of it.
     pub(crate) fn sum(&self) -> Sum
         ensures { result ≡ sum_of self.now }
     {
-        self.sum
+        match &self.filled {
+            None => Sum::nothing(),
+            Some(filled) => filled.sum(),
+        }
     }
 
     /// Whether all calls are finished.
     pub(crate) fn all_finished(&self) -> bool
         ensures { result ≡ lines.all_finished (row_in self.now) }
     {
-        self.sum.finished
+        self.sum().finished
     }
 
     /// The call of this position among the calls.
     pub(crate) fn call_at(&self, position: usize) -> Option<&State>
         ensures { option_copied result ≡ call_at self.now position }
     {
-        let mut left = position;
-        for chunk in &self.full {
-            let calls = chunk.calls();
-            if left < calls {
-                return chunk.call_at(left);
-            }
-            left -= calls;
+        match &self.filled {
+            None => None,
+            Some(filled) => filled.call_at(position),
         }
-        self.last.call_at(left)
     }
 
     /// Adds the calls, each shared.
     pub(crate) fn add_calls(&self, calls: &mut List<Shared>) -> Result<(), Memory>
         ensures { OnOk result (calls.new ≡ calls.old ++ row_in self.now) }
     {
-        for chunk in &self.full {
-            chunk.add_calls(calls)?;
+        match &self.filled {
+            None => Ok(()),
+            Some(filled) => filled.add_calls(calls),
         }
-        self.last.add_calls(calls)
     }
 
     // Whether some call Succeeded.
     pub(crate) fn some_succeeded(&self) -> bool
         ensures { result ≡ some_succeeded (row_in self.now) }
     {
-        for chunk in &self.full {
-            if chunk.some_succeeded() {
-                return true;
-            }
+        match &self.filled {
+            None => false,
+            Some(filled) => filled.some_succeeded(),
         }
-        self.last.some_succeeded()
     }
 
     // Whether all calls Failed.
     pub(crate) fn all_fell(&self) -> bool
         ensures { result ≡ all_fell (row_in self.now) }
     {
-        for chunk in &self.full {
-            if !chunk.all_fell() {
-                return false;
-            }
+        match &self.filled {
+            None => true,
+            Some(filled) => filled.all_fell(),
         }
-        self.last.all_fell()
     }
 
     /// The same over another call at this position. All other calls are shared, and all chunks but that of the call and the last.
     pub(crate) fn with_call(&self, position: usize, call: State) -> Result<Below, Memory>
         ensures { IfOk result (λ below. below ≡ replaced self.now position call) }
     {
-        let alloc = *self.full.allocator();
-        let mut full = Vec::with_capacity(alloc, self.full.len())?;
-        let mut sum = Sum::nothing();
-        let mut left = position;
-        let mut call = Some(call);
-        for chunk in &self.full {
-            let chunk = shared_or_replaced(chunk, &mut left, &mut call)?;
-            sum = sum.and(chunk.sum())?;
-            full.push(chunk)?;
+        match &self.filled {
+            None => Ok(Below::new(self.alloc)),
+            Some(filled) => Below::of(self.alloc, filled.with_call(position, call)?),
         }
-        let last = self.last.or_replaced(&mut left, &mut call)?;
-        let sum = sum.and(last.sum())?;
-        Ok(Below { full, last, sum })
     }
 
     #[cycle(first_want)]
     pub(crate) fn first_want(&self, kind: WantKind) -> Option<&Want>
         ensures { option_copied result ≡ find (is_of kind) (wants_in (lines_below self.now)) }
     {
-        if !self.sum.asks.of(kind) {
-            return None;
+        match &self.filled {
+            None => None,
+            Some(filled) => filled.first_want(kind),
         }
-        for chunk in &self.full {
-            if let Some(want) = chunk.first_want(kind) {
-                return Some(want);
-            }
-        }
-        self.last.first_want(kind)
     }
 
     #[cycle(first_beginning)]
     pub(crate) fn first_beginning(&self) -> Option<&Path>
         ensures { option_copied result ≡ first (beginnings_in (lines_below self.now)) }
     {
-        if !self.sum.asks.beginnings {
-            return None;
+        match &self.filled {
+            None => None,
+            Some(filled) => filled.first_beginning(),
         }
-        for chunk in &self.full {
-            if let Some(path) = chunk.first_beginning() {
-                return Some(path);
-            }
-        }
-        self.last.first_beginning()
     }
 
     #[cycle(tell)]
     pub(crate) fn tell(&self, told: &mut Told) -> Result<(), Memory>
         ensures { OnOk result (told.new ≡ told_with told.old (lines_below self.now)) }
     {
-        for chunk in &self.full {
-            chunk.tell(told)?;
+        match &self.filled {
+            None => Ok(()),
+            Some(filled) => filled.tell(told),
         }
-        self.last.tell(told)
     }
 
     #[cycle(find_want)]
     pub(crate) fn find_want<T: WantTest>(&self, kind: WantKind, test: &T) -> Option<&Want>
         ensures { option_copied result ≡ find (passes kind (T.accepts test.now)) (wants_in (lines_below self.now)) }
     {
-        if !self.sum.asks.of(kind) {
-            return None;
+        match &self.filled {
+            None => None,
+            Some(filled) => filled.find_want(kind, test),
         }
-        for chunk in &self.full {
-            if let Some(want) = chunk.find_want(kind, test) {
-                return Some(want);
-            }
-        }
-        self.last.find_want(kind, test)
     }
 
     #[cycle(find_node)]
     pub(crate) fn find_node<T: NodeTest>(&self, test: &T) -> Option<&Node>
         ensures { option_copied result ≡ find (T.accepts test.now) (nodes_in (lines_below self.now)) }
     {
-        for chunk in &self.full {
-            if let Some(node) = chunk.find_node(test) {
-                return Some(node);
-            }
+        match &self.filled {
+            None => None,
+            Some(filled) => filled.find_node(test),
         }
-        self.last.find_node(test)
     }
 
     #[cycle(next_timer)]
     pub(crate) fn next_timer(&self, clock: u64) -> Option<u64>
         ensures { result ≡ next_tick clock (wants_in (lines_below self.now)) }
     {
-        if !self.sum.asks.of(WantKind::Timer) {
-            return None;
+        match &self.filled {
+            None => None,
+            Some(filled) => filled.next_timer(clock),
         }
-        let mut next = None;
-        for chunk in &self.full {
-            next = sooner(next, chunk.next_timer(clock));
-        }
-        sooner(next, self.last.next_timer(clock))
     }
 
     // The first pod that is found, where the first of all has a position.
@@ -357,20 +308,9 @@ impl Below {
         ensures { option_map (λ f. (f.0, f.1.now)) result
             ≡ found_at from at (T.accepts test.now) (pods_in (wants_in (lines_below self.now))) }
     {
-        let pods = self.sum.pods as usize;
-        if pods == 0 {
-            return None;
+        match &self.filled {
+            None => None,
+            Some(filled) => filled.find_pod_at(at, from, test),
         }
-        if at + pods <= from {
-            return None;
-        }
-        let mut next = at;
-        for chunk in &self.full {
-            if let Some(found) = chunk.find_pod_at(next, from, test) {
-                return Some(found);
-            }
-            next += chunk.pods();
-        }
-        self.last.find_pod_at(next, from, test)
     }
 }

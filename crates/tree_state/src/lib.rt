@@ -5,6 +5,7 @@ mod beginning;
 mod below;
 mod chunk;
 mod clue;
+mod filled;
 mod finding;
 mod kinds;
 mod law;
@@ -15,6 +16,7 @@ mod room;
 mod shared;
 mod state;
 mod sum;
+mod tally;
 mod told;
 
 pub use below::Below;

@@ -7,6 +7,7 @@ ghost use Rattle.tree_state.specs.Finding.{pods_in, found_at, found_from};
 ghost use Rattle.tree_state.specs.Inside.Kids.{own_line, line_then, state_then, kid_parts};
 
 use crate::state::{Kid, Line};
+use crate::tally::{count_of, one_of};
 use crate::{State, WantKind, WantTest};
 use tree_types::{Want, Wants};
 
@@ -35,7 +36,7 @@ impl State {
         ensures all { result ≡ length (pods_in (wants_in (lines_in self.now))) }
         ensures few { result < 2 ^ 63 + 2 ^ 32 }
     {
-        pods_of(&self.wants) + self.below.pods()
+        count_of(WantKind::Pod, &self.wants) + self.below.pods()
     }
 
     // The first pod that is found, where the first of all has a position.
@@ -49,20 +50,8 @@ impl State {
             return Some(found);
         }
         self.below
-            .find_pod_at(at + pods_of(&self.wants), from, test)
+            .find_pod_at(at + count_of(WantKind::Pod, &self.wants), from, test)
     }
-}
-
-// How many pods stand among these.
-fn pods_of(wants: &Wants) -> usize
-    ensures all { result ≡ length (pods_in wants.now) }
-    ensures few { result < 2 ^ 63 }
-{
-    let mut count = 0;
-    for want in wants.as_slice() {
-        count += one_pod(want);
-    }
-    count
 }
 
 // The first pod of these that is found, where the first of all has a position.
@@ -81,17 +70,9 @@ fn pod_in<'a, T: WantTest>(
         if let Some(found) = pod_at(want, next, from, test) {
             return Some(found);
         }
-        next += one_pod(want);
+        next += one_of(WantKind::Pod, want);
     }
     None
-}
-
-// 1 for a pod, 0 for another want.
-fn one_pod(want: &Want) -> usize
-    ensures all { result ≡ length (pods_in (want.now ∷ [])) }
-    ensures few { result ≤ 1 }
-{
-    if WantKind::Pod.is_of(want) { 1 } else { 0 }
 }
 
 // The want itself, if it is a pod that is found at its position.
@@ -112,16 +93,6 @@ fn pod_at<'a, T: WantTest>(
 }
 
 impl Line {
-    fn pods(&self) -> usize
-        ensures all { result ≡ length (pods_in (wants_in (lines_below (own_line self.now nothing)))) }
-        ensures few { result ≤ 1 }
-    {
-        match self {
-            Line::MayBegin(_) => 0,
-            Line::Asks(want) => one_pod(want),
-        }
-    }
-
     fn pod_at<T: WantTest>(&self, at: usize, from: usize, test: &T) -> Option<(usize, &Want)>
         ensures { option_map (λ f. (f.0, f.1.now)) result ≡ found_at from at (T.accepts test.now)
             (pods_in (wants_in (lines_below (own_line self.now nothing)))) }
@@ -137,18 +108,7 @@ impl Kid {
     pub(crate) fn pods(&self) -> usize
         ensures { result ≡ length (pods_in (wants_in (lines_below (kid_parts self.now)))) }
     {
-        self.own_pods() + self.call_pods()
-    }
-
-    // How many pods the kid's own line asks for.
-    fn own_pods(&self) -> usize
-        ensures all { result ≡ length (pods_in (wants_in (lines_below (line_then self.now.line nothing)))) }
-        ensures few { result ≤ 1 }
-    {
-        match &self.line {
-            None => 0,
-            Some(line) => line.pods(),
-        }
+        self.own_count(WantKind::Pod) + self.call_pods()
     }
 
     // How many pods the kid's call asks for.
@@ -190,7 +150,7 @@ impl Kid {
         }
         match &self.state {
             None => None,
-            Some(state) => state.find_pod_at(at + self.own_pods(), from, test),
+            Some(state) => state.find_pod_at(at + self.own_count(WantKind::Pod), from, test),
         }
     }
 }

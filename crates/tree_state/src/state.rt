@@ -429,6 +429,7 @@ impl Kid {
         Ok(Sum {
             nodes: small(self.count())?,
             pods: small(self.pods())?,
+            locks: small(self.locks())?,
             calls: self.calls(),
             finished: self.is_finished(),
             asks: self.asks(),

@@ -7,12 +7,13 @@ ghost use Rattle.tree_state.specs.Inside.Sums.{sum_of, sum_with};
 use crate::kinds::Asks;
 use base_types::Memory;
 
-/// How many nodes and calls stand below a node, for how many pods is asked there, whether all calls are finished, and which
+/// How many nodes and calls stand below a node, for how many pods and locks is asked there, whether all calls are finished, and which
 /// kinds of lines stand there.
 #[derive(Clone, Copy, Debug)]
 pub(crate) struct Sum {
     pub(crate) nodes: u32,
     pub(crate) pods: u32,
+    pub(crate) locks: u32,
     pub(crate) calls: u32,
     pub(crate) finished: bool,
     pub(crate) asks: Asks,
@@ -25,6 +26,7 @@ impl Sum {
         Sum {
             nodes: 0,
             pods: 0,
+            locks: 0,
             calls: 0,
             finished: true,
             asks: Asks::nothing(),
@@ -38,6 +40,7 @@ impl Sum {
         Ok(Sum {
             nodes: together(self.nodes, other.nodes)?,
             pods: together(self.pods, other.pods)?,
+            locks: together(self.locks, other.locks)?,
             calls: together(self.calls, other.calls)?,
             finished: self.finished && other.finished,
             asks: self.asks.and(other.asks),

@@ -8,13 +8,13 @@ use Rattle.tree_state.proofs.Found.{own_fails}
 use Rattle.tree_state.proofs.Readings.{node_among, nodes_then}
 use Rattle.tree_state.proofs.+find_node.Goals as goal
 
-pub below::Below::find_node-returns-in-Some : goal.below::Below::find_node-returns-in-Some
-below::Below::find_node-returns-in-Some g t c =
+pub filled::Filled::find_node-returns-in-Some : goal.filled::Filled::find_node-returns-in-Some
+filled::Filled::find_node-returns-in-Some g t c =
     let p : Node → Bool = g.T.NodeTest.accepts c.args.test.now in
     chunk_has (node_among p) (nodes_then p) c.deref-chunk-items.result.now c.self.inside.last c.loop-chunk.chunk-index c.chunk-item.result c.in-Some.node.now (node_among p (lines_below c.args.self.now)) c.loop-chunk-test.true c.chunk-item.is c.loop-chunk.invariant (c.in-Some.ensures ∙ ap (λ (q : Parts). node_among p (lines_below q)) c.deref.ensures)
 
-pub below::Below::find_node-loop-chunk-preserved : goal.below::Below::find_node-loop-chunk-preserved
-below::Below::find_node-loop-chunk-preserved g t c =
+pub filled::Filled::find_node-loop-chunk-preserved : goal.filled::Filled::find_node-loop-chunk-preserved
+filled::Filled::find_node-loop-chunk-preserved g t c =
     let p : Node → Bool = g.T.NodeTest.accepts c.args.test.now in
     chunk_lacks (node_among p) (nodes_then p) c.deref-chunk-items.result.now c.self.inside.last c.loop-chunk.chunk-index c.chunk-item.result (node_among p (lines_below c.args.self.now)) c.loop-chunk-test.true c.chunk-item.is c.loop-chunk.invariant (c.in_default.ensures ∙ ap (λ (q : Parts). node_among p (lines_below q)) c.deref.ensures)
 

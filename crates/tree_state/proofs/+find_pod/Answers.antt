@@ -20,8 +20,8 @@ use Rattle.tree_state.proofs.Chunks.{chunks_read, last_left}
 use Rattle.tree_state.proofs.Positions.{pods_among, pods_then, found_skips, has_left, rest_left, fits, node_has, node_fits, both_fit, node_rest, kid_has, kid_fits, kid_next}
 use Rattle.tree_state.proofs.+find_pod.Goals as goal
 
-pub below::Below::find_pod_at-returns-then-at-pods : goal.below::Below::find_pod_at-returns-then-at-pods
-below::Below::find_pod_at-returns-then-at-pods g t c =
+pub filled::Filled::find_pod_at-returns-then-at-pods : goal.filled::Filled::find_pod_at-returns-then-at-pods
+filled::Filled::find_pod_at-returns-then-at-pods g t c =
     let p = g.T.WantTest.accepts c.args.test.now in
     let all = pods_among (lines_below c.args.self.now) in
     let le : c.args.at + length all ≤ c.args.from = omega (arith, c.if-at-pods.true, ap (λ (s : Sum). s.pods) c.self.invariant, ap (λ (q : Parts). length (pods_among (lines_below q))) c.self.view_is) in
@@ -34,8 +34,8 @@ chunk::Chunk::find_pod_at-returns-then-at-pods g t c =
     let le : c.args.at + length all ≤ c.args.from = omega (arith, c.if-at-pods.true, ap (λ (s : Sum). s.pods) c.self.invariant, ap (λ (q : Parts). length (pods_among (lines_below q))) c.self.view_is) in
     sym (found_skips c.args.from p c.args.at all le)
 
-pub below::Below::find_pod_at-find_pod_at-requires : goal.below::Below::find_pod_at-find_pod_at-requires
-below::Below::find_pod_at-find_pod_at-requires g t c =
+pub filled::Filled::find_pod_at-find_pod_at-requires : goal.filled::Filled::find_pod_at-find_pod_at-requires
+filled::Filled::find_pod_at-find_pod_at-requires g t c =
     let p = g.T.WantTest.accepts c.args.test.now in
     let all = pods_among (lines_below c.args.self.now) in
     let cs = c.deref-chunk-items.result.now in
@@ -48,11 +48,11 @@ below::Below::find_pod_at-find_pod_at-requires g t c =
     let split : ws ≡ own ++ rest = chunks_read (λ (a b : List Want). a ++ b) pods_among pods_then cs last i item c.loop-chunk-test.true c.chunk-item.is in
     let few : c.loop-chunk.next + length (pods_among (lines_below c.deref.result.now)) < 2 ^ 64 = omega (arith, fits c.args.from p (found_at c.args.from c.args.at p all) (c.args.at + length all) c.loop-chunk.next ws own rest split c.loop-chunk.invariant (length own) refl c.requires, ap (λ (q : Parts). length (pods_among (lines_below q))) c.deref.ensures) in
     let within : i < length cs = c.loop-chunk-test.true in
-    let lower : chunk_size c.deref.result.now + 1 ≤ 3 * count_below c.args.self.now + 2 = omega (arith, ap chunk_size c.deref.ensures, ap (λ (x : Arc Parts Global). chunk_size x.value) c.chunk-item.is, at_most (λ (x : Arc Parts Global). chunk_size x.value + 1) cs i item within, chunks_are_lower cs, both_counted (all_of cs) last, ap (λ (ds : List (Arc Parts Global)). count_below (all_of ds)) c.deref-chunk-items.ensures.value, both_counted (all_of c.self.inside.full.items) last, ap count_below c.self.view_is) in
+    let lower : chunk_size c.deref.result.now + 1 ≤ 4 * count_below c.args.self.now + 2 = omega (arith, ap chunk_size c.deref.ensures, ap (λ (x : Arc Parts Global). chunk_size x.value) c.chunk-item.is, at_most (λ (x : Arc Parts Global). chunk_size x.value + 1) cs i item within, chunks_are_lower cs, both_counted (all_of cs) last, ap (λ (ds : List (Arc Parts Global)). count_below (all_of ds)) c.deref-chunk-items.ensures.value, both_counted (all_of c.self.inside.full.items) last, ap count_below c.self.view_is) in
     λ κs le. (omega (arith, lower, c.decreases), (search rules, few))
 
-pub below::Below::find_pod_at-find_pod_at-requires-2 : goal.below::Below::find_pod_at-find_pod_at-requires-2
-below::Below::find_pod_at-find_pod_at-requires-2 g t c =
+pub filled::Filled::find_pod_at-find_pod_at-requires-2 : goal.filled::Filled::find_pod_at-find_pod_at-requires-2
+filled::Filled::find_pod_at-find_pod_at-requires-2 g t c =
     let p = g.T.WantTest.accepts c.args.test.now in
     let all = pods_among (lines_below c.args.self.now) in
     let cs = c.deref-chunk-items.result.now in
@@ -60,11 +60,11 @@ below::Below::find_pod_at-find_pod_at-requires-2 g t c =
     let i = c.loop-chunk.chunk-index in
     let end : length cs ≤ i = omega (arith, c.loop-chunk-test.false) in
     let few : c.loop-chunk.next + length (pods_among (lines_below last)) < 2 ^ 64 = omega (arith, c.loop-chunk.invariant.1, ap (λ (q : Parts). length (pods_among (lines_below q))) (last_left cs last i end), c.requires) in
-    let lower : chunk_size last + 1 ≤ 3 * count_below c.args.self.now + 2 = omega (arith, both_counted (all_of c.self.inside.full.items) last, ap count_below c.self.view_is) in
+    let lower : chunk_size last + 1 ≤ 4 * count_below c.args.self.now + 2 = omega (arith, both_counted (all_of c.self.inside.full.items) last, ap count_below c.self.view_is) in
     λ κs le. (omega (arith, lower, c.decreases), (search rules, few))
 
-pub below::Below::find_pod_at-returns-in-Some : goal.below::Below::find_pod_at-returns-in-Some
-below::Below::find_pod_at-returns-in-Some g t c =
+pub filled::Filled::find_pod_at-returns-in-Some : goal.filled::Filled::find_pod_at-returns-in-Some
+filled::Filled::find_pod_at-returns-in-Some g t c =
     let p = g.T.WantTest.accepts c.args.test.now in
     let all = pods_among (lines_below c.args.self.now) in
     let cs = c.deref-chunk-items.result.now in
@@ -77,8 +77,8 @@ below::Below::find_pod_at-returns-in-Some g t c =
     let split : ws ≡ own ++ rest = chunks_read (λ (a b : List Want). a ++ b) pods_among pods_then cs last i item c.loop-chunk-test.true c.chunk-item.is in
     has_left c.args.from p (found_at c.args.from c.args.at p all) (c.args.at + length all) c.loop-chunk.next ws own rest split c.loop-chunk.invariant (c.in-Some.ensures ∙ ap (λ (q : Parts). found_at c.args.from c.loop-chunk.next p (pods_among (lines_below q))) c.deref.ensures)
 
-pub below::Below::find_pod_at-overflow_add-next : goal.below::Below::find_pod_at-overflow_add-next
-below::Below::find_pod_at-overflow_add-next g t c =
+pub filled::Filled::find_pod_at-overflow_add-next : goal.filled::Filled::find_pod_at-overflow_add-next
+filled::Filled::find_pod_at-overflow_add-next g t c =
     let p = g.T.WantTest.accepts c.args.test.now in
     let all = pods_among (lines_below c.args.self.now) in
     let cs = c.deref-chunk-items.result.now in
@@ -91,8 +91,8 @@ below::Below::find_pod_at-overflow_add-next g t c =
     let split : ws ≡ own ++ rest = chunks_read (λ (a b : List Want). a ++ b) pods_among pods_then cs last i item c.loop-chunk-test.true c.chunk-item.is in
     omega (arith, fits c.args.from p (found_at c.args.from c.args.at p all) (c.args.at + length all) c.loop-chunk.next ws own rest split c.loop-chunk.invariant c.pods-next.result (c.pods-next.ensures.all ∙ ap (λ (q : Parts). length (pods_among (lines_below q))) c.deref-in-loop-chunk.ensures) c.requires)
 
-pub below::Below::find_pod_at-loop-chunk-preserved : goal.below::Below::find_pod_at-loop-chunk-preserved
-below::Below::find_pod_at-loop-chunk-preserved g t c =
+pub filled::Filled::find_pod_at-loop-chunk-preserved : goal.filled::Filled::find_pod_at-loop-chunk-preserved
+filled::Filled::find_pod_at-loop-chunk-preserved g t c =
     let p = g.T.WantTest.accepts c.args.test.now in
     let all = pods_among (lines_below c.args.self.now) in
     let cs = c.deref-chunk-items.result.now in
@@ -113,7 +113,7 @@ chunk::Chunk::find_pod_at-find_pod_at-requires g t c =
     let kids = c.self.inside.kids.items in
     let here : c.kid-item.result ≡ get_or kids c.loop-kid.kid-index c.kid-item.result = c.kid-item.is ∙ ap (λ (ks : List Kid). get_or ks c.loop-kid.kid-index c.kid-item.result) c.deref-kid-items.ensures.value in
     let within : c.loop-kid.kid-index < length kids = subst (λ (ks : List Kid). c.loop-kid.kid-index < length ks) c.deref-kid-items.ensures.value c.loop-kid-test.true in
-    let lower : deep-Kid c.kid-item.result ≤ 3 * count_below c.args.self.now + 1 = omega (arith, ap (λ (k : Kid). deep-Kid k) here, at_most (λ k. deep-Kid k) kids c.loop-kid.kid-index c.kid-item.result within, kids_are_lower kids, ap count_below c.self.view_is) in
+    let lower : deep-Kid c.kid-item.result ≤ 4 * count_below c.args.self.now + 1 = omega (arith, ap (λ (k : Kid). deep-Kid k) here, at_most (λ k. deep-Kid k) kids c.loop-kid.kid-index c.kid-item.result within, kids_are_lower kids, ap count_below c.self.view_is) in
     λ κs le. (omega (arith, lower, c.decreases), (search rules, few))
 
 pub chunk::Chunk::find_pod_at-returns-in-Some : goal.chunk::Chunk::find_pod_at-returns-in-Some
@@ -144,14 +144,14 @@ state::State::find_pod_at-returns-in-Some g t c =
 
 pub state::State::find_pod_at-overflow_add-at : goal.state::State::find_pod_at-overflow_add-at
 state::State::find_pod_at-overflow_add-at g t c =
-    omega (arith, node_fits c.args.from (g.T.WantTest.accepts c.args.test.now) c.args.at (made_of c.self.inside) c.args.self.now c.self.view_is c.pods_of.result c.pods_of.ensures.all c.requires)
+    omega (arith, node_fits c.args.from (g.T.WantTest.accepts c.args.test.now) c.args.at (made_of c.self.inside) c.args.self.now c.self.view_is c.count_of.result c.count_of.ensures.all c.requires)
 
 pub state::State::find_pod_at-find_pod_at-requires : goal.state::State::find_pod_at-find_pod_at-requires
 state::State::find_pod_at-find_pod_at-requires g t c =
-    let few : c.args.at + c.pods_of.result + length (pods_among (lines_below c.self.inside.below)) < 2 ^ 64 = both_fit c.args.from (g.T.WantTest.accepts c.args.test.now) c.args.at (made_of c.self.inside) c.args.self.now c.self.view_is c.pods_of.result c.pods_of.ensures.all (length (pods_among (lines_below c.self.inside.below))) refl c.requires in
+    let few : c.args.at + c.count_of.result + length (pods_among (lines_below c.self.inside.below)) < 2 ^ 64 = both_fit c.args.from (g.T.WantTest.accepts c.args.test.now) c.args.at (made_of c.self.inside) c.args.self.now c.self.view_is c.count_of.result c.count_of.ensures.all (length (pods_among (lines_below c.self.inside.below))) refl c.requires in
     let lower : below_size c.self.inside.below + 1 ≤ made_size c.args.self.now = omega (arith, ap made_size c.self.view_is) in
     λ κs le. (omega (arith, lower, c.decreases), (search rules, few))
 
 pub state::State::find_pod_at-returns : goal.state::State::find_pod_at-returns
 state::State::find_pod_at-returns g t c =
-    c.find_pod_at.ensures ∙ (node_rest c.args.from (g.T.WantTest.accepts c.args.test.now) c.args.at (made_of c.self.inside) c.args.self.now c.self.view_is c.pods_of.result c.pods_of.ensures.all c.in_default.ensures).0
+    c.find_pod_at.ensures ∙ (node_rest c.args.from (g.T.WantTest.accepts c.args.test.now) c.args.at (made_of c.self.inside) c.args.self.now c.self.view_is c.count_of.result c.count_of.ensures.all c.in_default.ensures).0

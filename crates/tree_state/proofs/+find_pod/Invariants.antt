@@ -7,8 +7,8 @@ use Rattle.tree_state.specs.Inside.Chunks.{all_of}
 use Rattle.tree_state.proofs.Positions.{Left, pods_among}
 use Rattle.tree_state.proofs.+find_pod.Given as goal
 
-abbrev pub invariant-below::Below::find_pod_at-loop-chunk : goal.invariant-below::Below::find_pod_at-loop-chunk
-invariant-below::Below::find_pod_at-loop-chunk g l =
+abbrev pub invariant-filled::Filled::find_pod_at-loop-chunk : goal.invariant-filled::Filled::find_pod_at-loop-chunk
+invariant-filled::Filled::find_pod_at-loop-chunk g l =
     let all = pods_among (lines_below l.self) in
     Left l.from (g.T.WantTest.accepts l.test) (found_at l.from l.at (g.T.WantTest.accepts l.test) all) (l.at + length all) l.next (pods_among (lines_below (then_parts (all_of (drop l.chunk-index l.chunk-items)) l.self-inside.last)))
 

@@ -12,14 +12,14 @@ use Rattle.tree_state.proofs.Found.{lacks_passing}
 use Rattle.tree_state.proofs.Readings.{want_among, wants_then}
 use Rattle.tree_state.proofs.+find_want.Goals as goal
 
-pub below::Below::find_want-returns-in-Some : goal.below::Below::find_want-returns-in-Some
-below::Below::find_want-returns-in-Some g t c =
+pub filled::Filled::find_want-returns-in-Some : goal.filled::Filled::find_want-returns-in-Some
+filled::Filled::find_want-returns-in-Some g t c =
     let f : Want → Bool = g.T.WantTest.accepts c.args.test.now in
     let p : Want → Bool = passes c.args.kind f in
     chunk_has (want_among p) (wants_then p) c.deref-chunk-items.result.now c.self.inside.last c.loop-chunk.chunk-index c.chunk-item.result c.in-Some.want.now (want_among p (lines_below c.args.self.now)) c.loop-chunk-test.true c.chunk-item.is c.loop-chunk.invariant (c.in-Some.ensures ∙ ap (λ (q : Parts). want_among p (lines_below q)) c.deref.ensures)
 
-pub below::Below::find_want-loop-chunk-preserved : goal.below::Below::find_want-loop-chunk-preserved
-below::Below::find_want-loop-chunk-preserved g t c =
+pub filled::Filled::find_want-loop-chunk-preserved : goal.filled::Filled::find_want-loop-chunk-preserved
+filled::Filled::find_want-loop-chunk-preserved g t c =
     let f : Want → Bool = g.T.WantTest.accepts c.args.test.now in
     let p : Want → Bool = passes c.args.kind f in
     chunk_lacks (want_among p) (wants_then p) c.deref-chunk-items.result.now c.self.inside.last c.loop-chunk.chunk-index c.chunk-item.result (want_among p (lines_below c.args.self.now)) c.loop-chunk-test.true c.chunk-item.is c.loop-chunk.invariant (c.in_default.ensures ∙ ap (λ (q : Parts). want_among p (lines_below q)) c.deref.ensures)
@@ -36,8 +36,8 @@ chunk::Chunk::find_want-loop-kid-preserved g t c =
     let p : Want → Bool = passes c.args.kind f in
     kid_lacks (want_among p) (wants_then p) c.deref-kid-items.result.now c.loop-kid.kid-index c.kid-item.result (want_among p (lines_below c.args.self.now)) c.loop-kid-test.true c.kid-item.is c.loop-kid.invariant c.in_default.ensures
 
-pub below::Below::find_want-returns-then-not-of : goal.below::Below::find_want-returns-then-not-of
-below::Below::find_want-returns-then-not-of g t c =
+pub filled::Filled::find_want-returns-then-not-of : goal.filled::Filled::find_want-returns-then-not-of
+filled::Filled::find_want-returns-then-not-of g t c =
     let f : Want → Bool = g.T.WantTest.accepts c.args.test.now in
     let p : Want → Bool = passes c.args.kind f in
     lacks_passing c.args.kind f (lines_below (then_parts (all_of c.self.inside.full.items) c.self.inside.last)) (asks_none c.args.kind (lines_below (then_parts (all_of c.self.inside.full.items) c.self.inside.last)) c.self.inside.sum.asks c.of.result (ap (λ (s : Sum). s.asks) c.self.invariant) c.of.ensures c.if-not-of.true) ∙ ap (λ (q : Parts). want_among p (lines_below q)) c.self.view_is

@@ -8,8 +8,8 @@ use Rattle.tree_state.specs.Inside.Kids.{parts_of}
 use Rattle.tree_state.specs.Inside.Chunks.{all_of}
 use Rattle.tree_state.proofs.+find_want.Given as goal
 
-abbrev pub invariant-below::Below::find_want-loop-chunk : goal.invariant-below::Below::find_want-loop-chunk
-invariant-below::Below::find_want-loop-chunk g l =
+abbrev pub invariant-filled::Filled::find_want-loop-chunk : goal.invariant-filled::Filled::find_want-loop-chunk
+invariant-filled::Filled::find_want-loop-chunk g l =
     find (passes l.kind (g.T.WantTest.accepts l.test)) (wants_in (lines_below (then_parts (all_of (drop l.chunk-index l.chunk-items)) l.self-inside.last))) ≡ find (passes l.kind (g.T.WantTest.accepts l.test)) (wants_in (lines_below l.self))
 
 abbrev pub invariant-chunk::Chunk::find_want-loop-kid : goal.invariant-chunk::Chunk::find_want-loop-kid

@@ -6,12 +6,12 @@ use Rattle.tree_state.proofs.Firsts.{kid_has, kid_lacks, begins_below}
 use Rattle.tree_state.proofs.Readings.{beginning_among, beginnings_then}
 use Rattle.tree_state.proofs.+first_beginning.Goals as goal
 
-pub below::Below::first_beginning-returns-in-Some : goal.below::Below::first_beginning-returns-in-Some
-below::Below::first_beginning-returns-in-Some t c =
+pub filled::Filled::first_beginning-returns-in-Some : goal.filled::Filled::first_beginning-returns-in-Some
+filled::Filled::first_beginning-returns-in-Some t c =
     chunk_has (beginning_among) (beginnings_then) c.deref-chunk-items.result.now c.self.inside.last c.loop-chunk.chunk-index c.chunk-item.result c.in-Some.path.now (beginning_among (lines_below c.args.self.now)) c.loop-chunk-test.true c.chunk-item.is c.loop-chunk.invariant (c.in-Some.ensures ∙ ap (λ (p : Parts). beginning_among (lines_below p)) c.deref.ensures)
 
-pub below::Below::first_beginning-loop-chunk-preserved : goal.below::Below::first_beginning-loop-chunk-preserved
-below::Below::first_beginning-loop-chunk-preserved t c =
+pub filled::Filled::first_beginning-loop-chunk-preserved : goal.filled::Filled::first_beginning-loop-chunk-preserved
+filled::Filled::first_beginning-loop-chunk-preserved t c =
     chunk_lacks (beginning_among) (beginnings_then) c.deref-chunk-items.result.now c.self.inside.last c.loop-chunk.chunk-index c.chunk-item.result (beginning_among (lines_below c.args.self.now)) c.loop-chunk-test.true c.chunk-item.is c.loop-chunk.invariant (c.in_default.ensures ∙ ap (λ (p : Parts). beginning_among (lines_below p)) c.deref.ensures)
 
 pub chunk::Chunk::first_beginning-returns-in-Some : goal.chunk::Chunk::first_beginning-returns-in-Some

@@ -7,8 +7,8 @@ use Rattle.tree_state.specs.Inside.Kids.{parts_of}
 use Rattle.tree_state.specs.Inside.Chunks.{all_of}
 use Rattle.tree_state.proofs.+first_beginning.Given as goal
 
-abbrev pub invariant-below::Below::first_beginning-loop-chunk : goal.invariant-below::Below::first_beginning-loop-chunk
-invariant-below::Below::first_beginning-loop-chunk l =
+abbrev pub invariant-filled::Filled::first_beginning-loop-chunk : goal.invariant-filled::Filled::first_beginning-loop-chunk
+invariant-filled::Filled::first_beginning-loop-chunk l =
     first (beginnings_in (lines_below (then_parts (all_of (drop l.chunk-index l.chunk-items)) l.self-inside.last))) ≡ first (beginnings_in (lines_below l.self))
 
 abbrev pub invariant-chunk::Chunk::first_beginning-loop-kid : goal.invariant-chunk::Chunk::first_beginning-loop-kid

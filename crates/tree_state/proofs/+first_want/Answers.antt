@@ -10,12 +10,12 @@ use Rattle.tree_state.proofs.Firsts.{kid_has, kid_lacks, own_has, own_lacks, kin
 use Rattle.tree_state.proofs.Readings.{want_among, wants_then}
 use Rattle.tree_state.proofs.+first_want.Goals as goal
 
-pub below::Below::first_want-returns-in-Some : goal.below::Below::first_want-returns-in-Some
-below::Below::first_want-returns-in-Some t c =
+pub filled::Filled::first_want-returns-in-Some : goal.filled::Filled::first_want-returns-in-Some
+filled::Filled::first_want-returns-in-Some t c =
     chunk_has (want_among (is_of c.args.kind)) (wants_then (is_of c.args.kind)) c.deref-chunk-items.result.now c.self.inside.last c.loop-chunk.chunk-index c.chunk-item.result c.in-Some.want.now (want_among (is_of c.args.kind) (lines_below c.args.self.now)) c.loop-chunk-test.true c.chunk-item.is c.loop-chunk.invariant (c.in-Some.ensures ∙ ap (λ (p : Parts). want_among (is_of c.args.kind) (lines_below p)) c.deref.ensures)
 
-pub below::Below::first_want-loop-chunk-preserved : goal.below::Below::first_want-loop-chunk-preserved
-below::Below::first_want-loop-chunk-preserved t c =
+pub filled::Filled::first_want-loop-chunk-preserved : goal.filled::Filled::first_want-loop-chunk-preserved
+filled::Filled::first_want-loop-chunk-preserved t c =
     chunk_lacks (want_among (is_of c.args.kind)) (wants_then (is_of c.args.kind)) c.deref-chunk-items.result.now c.self.inside.last c.loop-chunk.chunk-index c.chunk-item.result (want_among (is_of c.args.kind) (lines_below c.args.self.now)) c.loop-chunk-test.true c.chunk-item.is c.loop-chunk.invariant (c.in_default.ensures ∙ ap (λ (p : Parts). want_among (is_of c.args.kind) (lines_below p)) c.deref.ensures)
 
 pub chunk::Chunk::first_want-returns-in-Some : goal.chunk::Chunk::first_want-returns-in-Some
@@ -26,8 +26,8 @@ pub chunk::Chunk::first_want-loop-kid-preserved : goal.chunk::Chunk::first_want-
 chunk::Chunk::first_want-loop-kid-preserved t c =
     kid_lacks (want_among (is_of c.args.kind)) (wants_then (is_of c.args.kind)) c.deref-kid-items.result.now c.loop-kid.kid-index c.kid-item.result (want_among (is_of c.args.kind) (lines_below c.args.self.now)) c.loop-kid-test.true c.kid-item.is c.loop-kid.invariant c.in_default.ensures
 
-pub below::Below::first_want-returns-then-not-of : goal.below::Below::first_want-returns-then-not-of
-below::Below::first_want-returns-then-not-of t c =
+pub filled::Filled::first_want-returns-then-not-of : goal.filled::Filled::first_want-returns-then-not-of
+filled::Filled::first_want-returns-then-not-of t c =
     kind_lacks c.args.kind (lines_below (then_parts (all_of c.self.inside.full.items) c.self.inside.last)) c.self.inside.sum.asks c.of.result (ap (λ (s : Sum). s.asks) c.self.invariant) c.of.ensures c.if-not-of.true ∙ ap (λ (p : Parts). want_among (is_of c.args.kind) (lines_below p)) c.self.view_is
 
 pub chunk::Chunk::first_want-returns-then-not-of : goal.chunk::Chunk::first_want-returns-then-not-of

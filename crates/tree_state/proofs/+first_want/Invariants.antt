@@ -8,8 +8,8 @@ use Rattle.tree_state.specs.Inside.Kids.{parts_of}
 use Rattle.tree_state.specs.Inside.Chunks.{all_of}
 use Rattle.tree_state.proofs.+first_want.Given as goal
 
-abbrev pub invariant-below::Below::first_want-loop-chunk : goal.invariant-below::Below::first_want-loop-chunk
-invariant-below::Below::first_want-loop-chunk l =
+abbrev pub invariant-filled::Filled::first_want-loop-chunk : goal.invariant-filled::Filled::first_want-loop-chunk
+invariant-filled::Filled::first_want-loop-chunk l =
     find (is_of l.kind) (wants_in (lines_below (then_parts (all_of (drop l.chunk-index l.chunk-items)) l.self-inside.last))) ≡ find (is_of l.kind) (wants_in (lines_below l.self))
 
 abbrev pub invariant-chunk::Chunk::first_want-loop-kid : goal.invariant-chunk::Chunk::first_want-loop-kid

@@ -7,8 +7,8 @@ use Rattle.tree_state.specs.Inside.Kids.{parts_of}
 use Rattle.tree_state.specs.Inside.Chunks.{all_of}
 use Rattle.tree_state.proofs.+next_timer.Given as goal
 
-abbrev pub invariant-below::Below::next_timer-loop-chunk : goal.invariant-below::Below::next_timer-loop-chunk
-invariant-below::Below::next_timer-loop-chunk l =
+abbrev pub invariant-filled::Filled::next_timer-loop-chunk : goal.invariant-filled::Filled::next_timer-loop-chunk
+invariant-filled::Filled::next_timer-loop-chunk l =
     sooner l.next (next_tick l.clock (wants_in (lines_below (then_parts (all_of (drop l.chunk-index l.chunk-items)) l.self-inside.last)))) ≡ next_tick l.clock (wants_in (lines_below l.self))
 
 abbrev pub invariant-chunk::Chunk::next_timer-loop-kid : goal.invariant-chunk::Chunk::next_timer-loop-kid

@@ -18,8 +18,8 @@ chunk::Chunk::tell-loop-kid-preserved t c =
     ∙ kid_told c.loop-kid.told kids c.loop-kid.kid-index c.kid-item.result c.loop-kid-test.true c.kid-item.is
     ∙ c.loop-kid.invariant
 
-pub below::Below::tell-loop-chunk-preserved : goal.below::Below::tell-loop-chunk-preserved
-below::Below::tell-loop-chunk-preserved t c =
+pub filled::Filled::tell-loop-chunk-preserved : goal.filled::Filled::tell-loop-chunk-preserved
+filled::Filled::tell-loop-chunk-preserved t c =
     let cs = c.deref-chunk-items.result.now in
     let rest = then_parts (all_of (drop (c.loop-chunk.chunk-index + 1) cs)) c.self.inside.last in
     ap (λ (x : Told). told_with x (lines_below rest)) (c.in_ok-tell.ensures ∙ ap (λ (p : Parts). told_with c.loop-chunk.told (lines_below p)) c.deref.ensures)

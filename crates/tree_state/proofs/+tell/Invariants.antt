@@ -6,8 +6,8 @@ use Rattle.tree_state.specs.Inside.Kids.{parts_of}
 use Rattle.tree_state.specs.Inside.Chunks.{all_of}
 use Rattle.tree_state.proofs.+tell.Given as goal
 
-abbrev pub invariant-below::Below::tell-loop-chunk : goal.invariant-below::Below::tell-loop-chunk
-invariant-below::Below::tell-loop-chunk l =
+abbrev pub invariant-filled::Filled::tell-loop-chunk : goal.invariant-filled::Filled::tell-loop-chunk
+invariant-filled::Filled::tell-loop-chunk l =
     told_with l.told (lines_below (then_parts (all_of (drop l.chunk-index l.chunk-items)) l.self-inside.last)) ≡ told_with l.fn.told (lines_below l.self)
 
 abbrev pub invariant-chunk::Chunk::tell-loop-kid : goal.invariant-chunk::Chunk::tell-loop-kid

@@ -1,4 +1,4 @@
--- What is kept of the lines below a node: how many nodes and pods stand there, and which kinds of lines.
+-- What is kept of the lines below a node: how many nodes, pods and locks stand there, and which kinds of lines.
 use Rattle.std.specs.Prelude.{Bool, true, ◌&&◌, ◌||◌, ◌+◌, List, length}
 use Rattle.std.specs.List.{list_any}
 use Rattle.meaning.specs.declared.lines.Line.{Line}
@@ -10,7 +10,7 @@ use Rattle.tree_state.specs.declared.kinds.Asks.{Asks}
 use Rattle.tree_state.specs.declared.sum.Sum.{Sum}
 use Rattle.tree_state.specs.Asking.{ask_for}
 use Rattle.tree_state.specs.Counting.{count_below}
-use Rattle.tree_state.specs.Finding.{pods_in}
+use Rattle.tree_state.specs.Finding.{pods_in, locks_in}
 
 -- some line says that a task may begin
 abbrev pub let_begin : List Line → Bool
@@ -51,6 +51,7 @@ abbrev pub sum_of : Parts → Sum
 sum_of p = record {
   nodes = count_below p;
   pods = length (pods_in (wants_in (lines_below p)));
+  locks = length (locks_in (wants_in (lines_below p)));
   calls = length (row_in p);
   finished = all_finished (row_in p);
   asks = asks_in (lines_below p);
@@ -58,4 +59,4 @@ sum_of p = record {
 
 -- with so much more
 abbrev pub sum_with : Sum → Sum → Sum
-sum_with s t = record { nodes = s.nodes + t.nodes; pods = s.pods + t.pods; calls = s.calls + t.calls; finished = s.finished && t.finished; asks = both_ask s.asks t.asks }
+sum_with s t = record { nodes = s.nodes + t.nodes; pods = s.pods + t.pods; locks = s.locks + t.locks; calls = s.calls + t.calls; finished = s.finished && t.finished; asks = both_ask s.asks t.asks }

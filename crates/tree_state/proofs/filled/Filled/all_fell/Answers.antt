@@ -3,7 +3,7 @@ use Rattle.std.specs.Prelude.{◌&&◌}
 use Rattle.meaning.specs.Lines.{Parts, row_in}
 use Rattle.tree_state.specs.Replacing.{all_fell}
 use Rattle.tree_state.proofs.Chunks.{row_tested, fell_then}
-use Rattle.tree_state.proofs.below.Below.all_fell.Goals as goal
+use Rattle.tree_state.proofs.filled.Filled.all_fell.Goals as goal
 
 pub returns-then-not-all_fell : goal.returns-then-not-all_fell
 returns-then-not-all_fell c =

@@ -2,7 +2,7 @@
 use Rattle.std.proofs.Common.{◌≡◌, ◌++◌, drop}
 use Rattle.meaning.specs.Lines.{then_parts, row_in}
 use Rattle.tree_state.specs.Inside.Chunks.{all_of}
-use Rattle.tree_state.proofs.below.Below.add_calls.Given as goal
+use Rattle.tree_state.proofs.filled.Filled.add_calls.Given as goal
 
 abbrev pub invariant-loop-chunk : goal.invariant-loop-chunk
 invariant-loop-chunk l =

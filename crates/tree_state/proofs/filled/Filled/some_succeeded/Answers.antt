@@ -3,7 +3,7 @@ use Rattle.std.specs.Prelude.{◌||◌}
 use Rattle.meaning.specs.Lines.{Parts, row_in}
 use Rattle.tree_state.specs.Replacing.{some_succeeded}
 use Rattle.tree_state.proofs.Chunks.{row_tested, some_then}
-use Rattle.tree_state.proofs.below.Below.some_succeeded.Goals as goal
+use Rattle.tree_state.proofs.filled.Filled.some_succeeded.Goals as goal
 
 pub returns-then-some_succeeded : goal.returns-then-some_succeeded
 returns-then-some_succeeded c =

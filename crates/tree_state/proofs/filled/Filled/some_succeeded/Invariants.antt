@@ -3,7 +3,7 @@ use Rattle.std.proofs.Common.{◌≡◌, drop}
 use Rattle.meaning.specs.Lines.{then_parts, row_in}
 use Rattle.tree_state.specs.Replacing.{some_succeeded}
 use Rattle.tree_state.specs.Inside.Chunks.{all_of}
-use Rattle.tree_state.proofs.below.Below.some_succeeded.Given as goal
+use Rattle.tree_state.proofs.filled.Filled.some_succeeded.Given as goal
 
 abbrev pub invariant-loop-chunk : goal.invariant-loop-chunk
 invariant-loop-chunk l =

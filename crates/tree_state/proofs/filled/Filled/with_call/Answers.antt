@@ -7,7 +7,7 @@ use Rattle.tree_state.specs.Inside.Sums.{sum_of}
 use Rattle.tree_state.proofs.Kids.{then_moves, replaced_whole}
 use Rattle.tree_state.proofs.Sums.{both_kept}
 use Rattle.tree_state.proofs.Chunks.{chunks_from, chunk_pushed, last_left}
-use Rattle.tree_state.proofs.below.Below.with_call.Goals as goal
+use Rattle.tree_state.proofs.filled.Filled.with_call.Goals as goal
 
 pub loop-chunk-preserved : goal.loop-chunk-preserved
 loop-chunk-preserved c =

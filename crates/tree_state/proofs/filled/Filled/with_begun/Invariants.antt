@@ -6,7 +6,7 @@ use Rattle.tree_state.specs.Beginning.{begun}
 use Rattle.tree_state.specs.Inside.Begun.{begun_by}
 use Rattle.tree_state.specs.Inside.Chunks.{all_of}
 use Rattle.tree_state.specs.Inside.Sums.{sum_of}
-use Rattle.tree_state.proofs.below.Below.with_begun.Given as goal
+use Rattle.tree_state.proofs.filled.Filled.with_begun.Given as goal
 
 abbrev pub invariant-loop-chunk : goal.invariant-loop-chunk
 invariant-loop-chunk l =

@@ -1,7 +1,7 @@
 use Rattle.std.proofs.Common.{sym, ap, ◌∙◌}
 use Rattle.tree_state.specs.Inside.Sums.{sum_of}
 use Rattle.tree_state.proofs.Chunks.{sealed}
-use Rattle.tree_state.proofs.below.Below.seal.Goals as goal
+use Rattle.tree_state.proofs.filled.Filled.seal.Goals as goal
 
 pub invariant_of-self-2 : goal.invariant_of-self-2
 invariant_of-self-2 c =

@@ -9,7 +9,7 @@ use Rattle.tree_state.specs.Inside.Sums.{sum_of}
 use Rattle.tree_state.proofs.Sums.{both_kept}
 use Rattle.tree_state.proofs.Chunks.{chunks_from, chunk_pushed, last_left}
 use Rattle.tree_state.proofs.Begins.{none_kept, none_begun, left_over, has_begun, none_before, some_before, chunk_begun}
-use Rattle.tree_state.proofs.below.Below.with_begun.Goals as goal
+use Rattle.tree_state.proofs.filled.Filled.with_begun.Goals as goal
 
 -- no task at all may begin there
 pub returns-then-not-self : goal.returns-then-not-self

@@ -6,7 +6,7 @@ use Rattle.tree_state.specs.Inside.Kids.{kid_parts}
 use Rattle.tree_state.specs.Inside.Sums.{sum_of}
 use Rattle.tree_state.proofs.Kids.{then_moves}
 use Rattle.tree_state.proofs.Sums.{both_kept}
-use Rattle.tree_state.proofs.below.Below.put.Goals as goal
+use Rattle.tree_state.proofs.filled.Filled.put.Goals as goal
 
 pub invariant_of-self-2 : goal.invariant_of-self-2
 invariant_of-self-2 c =

@@ -5,7 +5,7 @@ use Rattle.tree_state.specs.Replacing.{replaced}
 use Rattle.tree_state.specs.Inside.Kids.{replaced_by}
 use Rattle.tree_state.specs.Inside.Chunks.{all_of}
 use Rattle.tree_state.specs.Inside.Sums.{sum_of}
-use Rattle.tree_state.proofs.below.Below.with_call.Given as goal
+use Rattle.tree_state.proofs.filled.Filled.with_call.Given as goal
 
 abbrev pub invariant-loop-chunk : goal.invariant-loop-chunk
 invariant-loop-chunk l =

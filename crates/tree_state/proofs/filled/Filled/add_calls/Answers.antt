@@ -2,7 +2,7 @@ use Rattle.std.proofs.Common.{◌+◌, ◌++◌, List, drop, append_assoc, ap, �
 use Rattle.meaning.specs.Lines.{Parts, Made, then_parts, row_in}
 use Rattle.tree_state.specs.Inside.Chunks.{all_of}
 use Rattle.tree_state.proofs.Chunks.{row_read}
-use Rattle.tree_state.proofs.below.Below.add_calls.Goals as goal
+use Rattle.tree_state.proofs.filled.Filled.add_calls.Goals as goal
 
 pub loop-chunk-preserved : goal.loop-chunk-preserved
 loop-chunk-preserved c =

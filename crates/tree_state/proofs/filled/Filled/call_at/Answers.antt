@@ -3,7 +3,7 @@ use Rattle.meaning.specs.Lines.{Parts, then_parts, row_in}
 use Rattle.tree_state.specs.Replacing.{call_at}
 use Rattle.tree_state.specs.Inside.Chunks.{all_of}
 use Rattle.tree_state.proofs.Chunks.{chunks_from, call_within, call_behind, last_left}
-use Rattle.tree_state.proofs.below.Below.call_at.Goals as goal
+use Rattle.tree_state.proofs.filled.Filled.call_at.Goals as goal
 
 pub returns-then-left-calls : goal.returns-then-left-calls
 returns-then-left-calls c =

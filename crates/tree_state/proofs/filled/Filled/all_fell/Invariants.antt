@@ -3,7 +3,7 @@ use Rattle.std.proofs.Common.{◌≡◌, drop}
 use Rattle.meaning.specs.Lines.{then_parts, row_in}
 use Rattle.tree_state.specs.Replacing.{all_fell}
 use Rattle.tree_state.specs.Inside.Chunks.{all_of}
-use Rattle.tree_state.proofs.below.Below.all_fell.Given as goal
+use Rattle.tree_state.proofs.filled.Filled.all_fell.Given as goal
 
 abbrev pub invariant-loop-chunk : goal.invariant-loop-chunk
 invariant-loop-chunk l =
