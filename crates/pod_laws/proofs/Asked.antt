@@ -1,5 +1,5 @@
--- The pods that are asked for are asked for on until they are answered, and none twice: so their number tells which are new.
-use Rattle.std.proofs.Common.{◌≡◌, ◌+◌, ◌≤◌, Bool, true, false, cond, List, [], ◌∷◌, ◌++◌, length, Option, Some, None, refl, sym, ap, ◌∙◌, subst, inl, inr, arith}
+-- What is asked for is asked for on until it is answered, and nothing twice: so the number of pods tells which are new.
+use Rattle.std.proofs.Common.{◌≡◌, ◌+◌, ◌≤◌, Bool, true, false, cond, List, [], ◌∷◌, ◌++◌, length, Option, Some, None, refl, sym, ap, ◌∙◌, inl, inr, arith}
 use Rattle.tree_types.specs.declared.path.Path.{Path}
 use Rattle.tree_types.specs.declared.outcome.Outcome.{Outcome}
 use Rattle.tree_types.specs.declared.fact.Fact.{Fact}
@@ -14,62 +14,18 @@ use Rattle.meaning.specs.Answers.{path, Sels, Facts, first_or, first_of, settled
 use Rattle.meaning.specs.Trees.{wants}
 use Rattle.growth.specs.Growth.{Among, SaysMore, IsFair, KeepsTicks, Unanswered}
 use Rattle.growth.proofs.Journals.{first_stays, one_says_more, last_known}
-use Rattle.askings.specs.Once.{AreAlike, NoneTwice}
 use Rattle.askings.proofs.AsksOn.{on_by_answers}
 use Rattle.askings.proofs.AsksOnce.{asks_once}
 use Rattle.askings.proofs.HasNode.{pods_are_new}
-use Rattle.tree_state.specs.Asking.{is_of}
+use Rattle.tree_state.specs.declared.kinds.WantKind.{WantKind}
 use Rattle.tree_state.specs.declared.kinds.WantKind.TheVariants.{Pod}
 use Rattle.tree_state.specs.Finding.{pods_in}
 use Rattle.pod_laws.specs.NewPods.{pods, NoneNew, OneNew, IsAnswer, NoneNewByCount, OneNewByCount}
 use Rattle.pod_laws.proofs.Few.{Distinct, none_new, one_new}
-
--- ---- pods among wants
-
-pub want_of : (w : Want) (ws : List Want) → Among w (pods_in ws) → Among w ws
-want_of w [] h = absurd h
-want_of w (want.Pod p ∷ ws) (inl e) = inl e
-want_of w (want.Pod p ∷ ws) (inr h) = inr (want_of w ws h)
-want_of w (want.Lock p l ∷ ws) h = inr (want_of w ws h)
-want_of w (want.LookUp p c k a ∷ ws) h = inr (want_of w ws h)
-want_of w (want.Arming p ∷ ws) h = inr (want_of w ws h)
-want_of w (want.Timer p t ∷ ws) h = inr (want_of w ws h)
-want_of w (want.Save p c k o ∷ ws) h = inr (want_of w ws h)
+use Rattle.pod_laws.proofs.OfKind.{those, want_of, of_kind, is_kind, distinct}
 
 pub pod_of : (p : Path) (ws : List Want) → Among (want.Pod p) ws → Among (want.Pod p) (pods_in ws)
-pod_of p [] h = absurd h
-pod_of p (want.Pod q ∷ ws) (inl e) = inl e
-pod_of p (want.Pod q ∷ ws) (inr h) = inr (pod_of p ws h)
-pod_of p (want.Lock q l ∷ ws) (inl e) = absurd (cc e)
-pod_of p (want.Lock q l ∷ ws) (inr h) = pod_of p ws h
-pod_of p (want.LookUp q c k a ∷ ws) (inl e) = absurd (cc e)
-pod_of p (want.LookUp q c k a ∷ ws) (inr h) = pod_of p ws h
-pod_of p (want.Arming q ∷ ws) (inl e) = absurd (cc e)
-pod_of p (want.Arming q ∷ ws) (inr h) = pod_of p ws h
-pod_of p (want.Timer q t ∷ ws) (inl e) = absurd (cc e)
-pod_of p (want.Timer q t ∷ ws) (inr h) = pod_of p ws h
-pod_of p (want.Save q c k o ∷ ws) (inl e) = absurd (cc e)
-pod_of p (want.Save q c k o ∷ ws) (inr h) = pod_of p ws h
-
-is_pod : (w : Want) (ws : List Want) → Among w (pods_in ws) → is_of Pod w ≡ true
-is_pod w [] h = absurd h
-is_pod w (want.Pod p ∷ ws) (inl e) = ap (is_of Pod) (sym e)
-is_pod w (want.Pod p ∷ ws) (inr h) = is_pod w ws h
-is_pod w (want.Lock p l ∷ ws) h = is_pod w ws h
-is_pod w (want.LookUp p c k a ∷ ws) h = is_pod w ws h
-is_pod w (want.Arming p ∷ ws) h = is_pod w ws h
-is_pod w (want.Timer p t ∷ ws) h = is_pod w ws h
-is_pod w (want.Save p c k o ∷ ws) h = is_pod w ws h
-
-distinct : (ws : List Want) → NoneTwice ws → Distinct (pods_in ws)
-distinct [] apart = tt
-distinct (want.Pod p ∷ ws) apart =
-    ((λ y h e. apart.0 y (want_of y ws h) (subst (AreAlike (want.Pod p)) e refl)), distinct ws apart.1)
-distinct (want.Lock p l ∷ ws) apart = distinct ws apart.1
-distinct (want.LookUp p c k a ∷ ws) apart = distinct ws apart.1
-distinct (want.Arming p ∷ ws) apart = distinct ws apart.1
-distinct (want.Timer p t ∷ ws) apart = distinct ws apart.1
-distinct (want.Save p c k o ∷ ws) apart = distinct ws apart.1
+pod_of p ws h = of_kind Pod (want.Pod p) ws refl h
 
 -- ---- one fact more
 
@@ -80,7 +36,7 @@ unread read (k ∷ J) f e = ap (first_or (read k)) (unread read J f e)
 
 module _ (m : Manifest) (J : Facts) where
   asked_is_new : (p : Path) → Among (want.Pod p) (pods m J) → (first_of (settled_in p.sels) J ≡ None) × (first_of (carried_in p.sels) J ≡ None)
-  asked_is_new p h = pods_are_new m J p (want_of (want.Pod p) (wants m J) h)
+  asked_is_new p h = pods_are_new m J p (want_of Pod (want.Pod p) (wants m J) h)
 
   not_carried : (f : Fact) → IsAnswer m J f → (p : Sels) (x : Outcome) → first_of (carried_in p) J ≡ Some x → settled_in p f ≡ None
   not_carried Started a p x c = refl
@@ -119,56 +75,63 @@ module _ (m : Manifest) (J : Facts) where
   ticks : (f : Fact) → KeepsTicks (answers J) (answers (J ++ f ∷ []))
   ticks f p t e = first_stays (armed_in p) J (f ∷ []) t e
 
-  -- a pod that the fact does not settle is asked for on
-  on : (f : Fact) → IsAnswer m J f → (p : Path) → Among (want.Pod p) (pods m J) → settled_in p.sels f ≡ None → carried_in p.sels f ≡ None →
+  -- what the fact does not answer is asked for on
+  pub on : (k : WantKind) (f : Fact) → IsAnswer m J f → (w : Want) → Among w (those k (wants m J)) → Unanswered (answers (J ++ f ∷ [])) w →
+      Among w (those k (wants m (J ++ f ∷ [])))
+  on k f a w h unanswered =
+      of_kind k w (wants m (J ++ f ∷ [])) (is_kind k w (wants m J) h)
+      (on_by_answers m (answers J) (answers (J ++ f ∷ [])) w (says_more f a) (ticks f) (is_fair f a) (want_of k w (wants m J) h) unanswered)
+
+  pub apart : (k : WantKind) → Distinct (those k (wants m J))
+  apart k = distinct k (wants m J) (asks_once m (answers J))
+
+  -- ---- pods
+
+  -- one that the fact does not settle is asked for on
+  pod_on : (f : Fact) → IsAnswer m J f → (p : Path) → Among (want.Pod p) (pods m J) → settled_in p.sels f ≡ None → carried_in p.sels f ≡ None →
       Among (want.Pod p) (pods m (J ++ f ∷ []))
-  on f a p h s c =
+  pod_on f a p h s c =
       let new = asked_is_new p h in
       let none : outcome_at (J ++ f ∷ []) p.sels ≡ None =
       (λ i. outcome_of (unread (settled_in p.sels) J f s i) (unread (carried_in p.sels) J f c i)) ∙ (λ i. outcome_of (new.0 i) (new.1 i)) in
-      let unanswered : Unanswered (answers (J ++ f ∷ [])) (want.Pod p) = λ place e. ap (outcome_at (J ++ f ∷ [])) e ∙ none in
-      pod_of p (wants m (J ++ f ∷ []))
-      (on_by_answers m (answers J) (answers (J ++ f ∷ [])) (want.Pod p) (says_more f a) (ticks f) (is_fair f a) (want_of (want.Pod p) (wants m J) h) unanswered)
+      on Pod f a (want.Pod p) h (λ place e. ap (outcome_at (J ++ f ∷ [])) e ∙ none)
 
   -- the pods of before are asked for on, but for those that these are
   abbrev pub Stay : Fact → List Want → Type 0
   Stay f ws = (p : Path) → Among (want.Pod p) (pods m J) → Among (want.Pod p) ws
 
   pub stay : (f : Fact) → IsAnswer m J f → ((p : Path) → settled_in p.sels f ≡ None) → ((p : Path) → carried_in p.sels f ≡ None) → Stay f (pods m (J ++ f ∷ []))
-  stay f a s c p h = on f a p h (s p) (c p)
+  stay f a s c p h = pod_on f a p h (s p) (c p)
 
   pub stay_but : (q : Path) (o : Outcome) → IsAnswer m J (Settled q o) → Stay (Settled q o) (want.Pod q ∷ pods m (J ++ Settled q o ∷ []))
   stay_but q o a p h = by (sels_eq q.sels p.sels) refl
     where
       by : (b : Bool) → sels_eq q.sels p.sels ≡ b → Among (want.Pod p) (want.Pod q ∷ pods m (J ++ Settled q o ∷ []))
       by true e = inl (ap (λ (s : Sels). want.Pod (path s)) (sels_same q.sels p.sels e))
-      by false e = inr (on (Settled q o) a p h (ap (λ (b : Bool). cond b (Some o) None) e) refl)
+      by false e = inr (pod_on (Settled q o) a p h (ap (λ (b : Bool). cond b (Some o) None) e) refl)
 
   -- all that are asked for are pods
   pub all_stay : (f : Fact) (ws : List Want) → Stay f ws → (w : Want) → Among w (pods m J) → Among w ws
   all_stay f ws s (want.Pod p) h = s p h
-  all_stay f ws s (want.Lock p l) h = absurd (cc (is_pod (want.Lock p l) (wants m J) h))
-  all_stay f ws s (want.LookUp p c k g) h = absurd (cc (is_pod (want.LookUp p c k g) (wants m J) h))
-  all_stay f ws s (want.Arming p) h = absurd (cc (is_pod (want.Arming p) (wants m J) h))
-  all_stay f ws s (want.Timer p t) h = absurd (cc (is_pod (want.Timer p t) (wants m J) h))
-  all_stay f ws s (want.Save p c k o) h = absurd (cc (is_pod (want.Save p c k o) (wants m J) h))
-
-  apart : Distinct (pods m J)
-  apart = distinct (wants m J) (asks_once m (answers J))
+  all_stay f ws s (want.Lock p l) h = absurd (cc (is_kind Pod (want.Lock p l) (wants m J) h))
+  all_stay f ws s (want.LookUp p c k g) h = absurd (cc (is_kind Pod (want.LookUp p c k g) (wants m J) h))
+  all_stay f ws s (want.Arming p) h = absurd (cc (is_kind Pod (want.Arming p) (wants m J) h))
+  all_stay f ws s (want.Timer p t) h = absurd (cc (is_kind Pod (want.Timer p t) (wants m J) h))
+  all_stay f ws s (want.Save p c k o) h = absurd (cc (is_kind Pod (want.Save p c k o) (wants m J) h))
 
   -- ---- counted
 
   module _ (f : Fact) (s : Stay f (pods m (J ++ f ∷ []))) where
     none_by : length (pods m (J ++ f ∷ [])) ≤ length (pods m J) → NoneNew (pods m (J ++ f ∷ [])) (pods m J)
-    none_by few w h = none_new (pods m J) (pods m (J ++ f ∷ [])) apart (all_stay f (pods m (J ++ f ∷ [])) s) few w h
+    none_by few w h = none_new (pods m J) (pods m (J ++ f ∷ [])) (apart Pod) (all_stay f (pods m (J ++ f ∷ [])) s) few w h
 
     one_by : length (pods m (J ++ f ∷ [])) ≤ length (pods m J) + 1 → OneNew (pods m (J ++ f ∷ [])) (pods m J)
-    one_by few v w hv hw nv nw = one_new (pods m J) (pods m (J ++ f ∷ [])) apart (all_stay f (pods m (J ++ f ∷ [])) s) few v w hv hw nv nw
+    one_by few v w hv hw nv nw = one_new (pods m J) (pods m (J ++ f ∷ [])) (apart Pod) (all_stay f (pods m (J ++ f ∷ [])) s) few v w hv hw nv nw
 
 pub none_new_by_count : NoneNewByCount
 none_new_by_count m J (Settled q o) a few =
     let f = Settled q o in
-    λ w h. none_new (pods m J) (want.Pod q ∷ pods m (J ++ f ∷ [])) (apart m J) (all_stay m J f (want.Pod q ∷ pods m (J ++ f ∷ [])) (stay_but m J q o a)) (omega (arith, few)) w (inr h)
+    λ w h. none_new (pods m J) (want.Pod q ∷ pods m (J ++ f ∷ [])) (apart m J Pod) (all_stay m J f (want.Pod q ∷ pods m (J ++ f ∷ [])) (stay_but m J q o a)) (omega (arith, few)) w (inr h)
 none_new_by_count m J (Carried q o) a few = absurd a
 none_new_by_count m J (Begun q) a few = absurd a
 none_new_by_count m J Started a few = none_by m J Started (stay m J Started a (λ p. refl) (λ p. refl)) (omega (arith, few))
@@ -181,7 +144,7 @@ none_new_by_count m J (Resumed q) a few = none_by m J (Resumed q) (stay m J (Res
 pub one_new_by_count : OneNewByCount
 one_new_by_count m J (Settled q o) a few =
     let f = Settled q o in
-    λ v w hv hw nv nw. one_new (pods m J) (want.Pod q ∷ pods m (J ++ f ∷ [])) (apart m J) (all_stay m J f (want.Pod q ∷ pods m (J ++ f ∷ [])) (stay_but m J q o a)) (omega (arith, few)) v w (inr hv) (inr hw) nv nw
+    λ v w hv hw nv nw. one_new (pods m J) (want.Pod q ∷ pods m (J ++ f ∷ [])) (apart m J Pod) (all_stay m J f (want.Pod q ∷ pods m (J ++ f ∷ [])) (stay_but m J q o a)) (omega (arith, few)) v w (inr hv) (inr hw) nv nw
 one_new_by_count m J (Carried q o) a few = absurd a
 one_new_by_count m J (Begun q) a few = absurd a
 one_new_by_count m J Started a few = one_by m J Started (stay m J Started a (λ p. refl) (λ p. refl)) (omega (arith, few))

@@ -1,5 +1,5 @@
 -- Lists in which nothing stands twice: what stands in one of them, told by how long they are.
-use Rattle.std.proofs.Common.{◌≡◌, ◌+◌, ◌≤◌, List, [], ◌∷◌, length, refl, sym, ◌∙◌, ◌⊎◌, inl, inr, arith}
+use Rattle.std.proofs.Common.{◌≡◌, ◌+◌, ◌≤◌, List, [], ◌∷◌, length, refl, sym, ◌∙◌, subst, ◌⊎◌, inl, inr, arith}
 use Rattle.tree_types.specs.declared.want.Want.{Want}
 use Rattle.growth.specs.Growth.{Among}
 
@@ -76,3 +76,36 @@ one_new (x ∷ xs) ys apart within few u v hu hv nu nv =
     left : (y : Want) (w : Without x ys) → (Among y (x ∷ xs) → ⊥) → (x ≡ y) ⊎ Among y w.others → Among y w.others
     left y w n (inl e) = absurd (n (inl e))
     left y w n (inr a) = a
+
+-- ---- where some may be gone, and all that are gone are the same
+
+module _ (Gone : Want → Type 0) where
+  -- one that is gone, or none
+  sought : (xs ys : List Want) → ((y : Want) → Among y xs → Gone y ⊎ Among y ys) →
+      ((x : Want) × Among x xs × Gone x) ⊎ ((y : Want) → Among y xs → Among y ys)
+  sought [] ys left = inr (λ y h. absurd h)
+  sought (x ∷ xs) ys left = by (left x (inl refl)) (sought xs ys (λ y h. left y (inr h)))
+    where
+      all : Among x ys → ((y : Want) → Among y xs → Among y ys) → (y : Want) → Among y (x ∷ xs) → Among y ys
+      all a behind y (inl e) = subst (λ (z : Want). Among z ys) e a
+      all a behind y (inr h) = behind y h
+
+      by : Gone x ⊎ Among x ys → ((z : Want) × Among z xs × Gone z) ⊎ ((y : Want) → Among y xs → Among y ys) →
+          ((z : Want) × Among z (x ∷ xs) × Gone z) ⊎ ((y : Want) → Among y (x ∷ xs) → Among y ys)
+      by (inl g) behind = inl (x, inl refl, g)
+      by (inr a) (inl z) = inl (z.0, inr z.1, z.2)
+      by (inr a) (inr behind) = inr (all a behind)
+
+  pub none_new_but :
+      (xs ys : List Want) → Distinct xs → ((y : Want) → Among y xs → Gone y ⊎ Among y ys) →
+      ((x y : Want) → Among x xs → Among y xs → Gone x → Gone y → x ≡ y) → 1 + length ys ≤ length xs →
+      (y : Want) → Among y ys → Among y xs
+  none_new_but xs ys apart left one few y h = by (sought xs ys left)
+    where
+      within : (x : Want) → Among x xs → Gone x → (z : Want) → Among z xs → Gone z ⊎ Among z ys → Among z (x ∷ ys)
+      within x a g z b (inl gone) = inl (one x z a b g gone)
+      within x a g z b (inr stays) = inr stays
+
+      by : ((x : Want) × Among x xs × Gone x) ⊎ ((z : Want) → Among z xs → Among z ys) → Among y xs
+      by (inl x) = none_new xs (x.0 ∷ ys) apart (λ z b. within x.0 x.1 x.2 z b (left z b)) (omega (arith, few)) y (inr h)
+      by (inr all) = none_new xs ys apart all (omega (arith, few)) y h

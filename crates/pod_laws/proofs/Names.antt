@@ -13,8 +13,10 @@ use Rattle.growth.specs.Nodes.{Unlike}
 use Rattle.growth.proofs.GrowingTrees.{grows_by_answers}
 use Rattle.growth.proofs.OnePath.{one_path}
 use Rattle.askings.proofs.HasNode.{has_node}
+use Rattle.tree_state.specs.declared.kinds.WantKind.TheVariants.{Pod}
 use Rattle.pod_laws.specs.NewPods.{name_at, NamesAreKept}
-use Rattle.pod_laws.proofs.Asked.{want_of, says_more, is_fair}
+use Rattle.pod_laws.proofs.Asked.{says_more, is_fair}
+use Rattle.pod_laws.proofs.OfKind.{want_of}
 
 -- ---- a node of a list in which no two have one path is found by its path
 
@@ -39,7 +41,7 @@ module _ (n : Node) where
 pub names_are_kept : NamesAreKept
 names_are_kept m J f a p asked =
     let K = J ++ f ∷ [] in
-    let owner = has_node m (answers J) (want.Pod p) (want_of (want.Pod p) (wants m J) asked) in
+    let owner = has_node m (answers J) (want.Pod p) (want_of Pod (want.Pod p) (wants m J) asked) in
     let n = owner.0 in
     let later = grows_by_answers m (answers J) (answers K) (says_more m J f a) (is_fair m J f a) n owner.1 in
     let o = later.0 in

@@ -1,16 +1,19 @@
 -- The premises of the laws hold together: each law, put to a workflow of two pods side by side.
-use Rattle.std.proofs.Common.{◌≡◌, [], ◌∷◌, ◌++◌, refl, inl, codes, lit≤}
+use Rattle.std.proofs.Common.{◌≡◌, [], ◌∷◌, ◌++◌, Some, refl, inl, codes, lit≤}
 use Rattle.tree_types.specs.declared.path.Path.{Path}
+use Rattle.tree_types.specs.declared.path.LockId.{LockId}
 use Rattle.tree_types.specs.declared.path.Sel.TheVariants.{Main, Group, Step}
 use Rattle.tree_types.specs.declared.fact.Fact.{Fact}
-use Rattle.tree_types.specs.declared.fact.Fact.TheVariants.{Started}
+use Rattle.tree_types.specs.declared.fact.Fact.TheVariants.{Started, Granted}
 use Rattle.tree_types.specs.declared.want.Want.TheVariants as want
 use Rattle.wf_manifest.specs.declared.templates.Body.TheVariants as body
 use Rattle.wf_manifest.specs.declared.manifest.Manifest.{Manifest}
 use Rattle.meaning.specs.Answers.{path, Facts}
-use Rattle.meaning.proofs.Samples.{workflow, call, succeeded, settled}
+use Rattle.meaning.proofs.Samples.{template, workflow_of, workflow, call_with, call, mutex, succeeded, settled}
 use Rattle.pod_laws.specs.NewPods.{pods, NoneNew, OneNew, KeepsFront, IsAnswer, KeepsNames}
+use Rattle.pod_laws.specs.NewLocks.{locks}
 use Rattle.pod_laws.proofs.Asked.{none_new_by_count, one_new_by_count}
+use Rattle.pod_laws.proofs.Locks.{none_new_locks_by_count}
 use Rattle.pod_laws.proofs.Names.{names_are_kept}
 use Rattle.pod_laws.proofs.Ordered.{front_is_kept}
 
@@ -55,3 +58,21 @@ one = workflow (codes "a") (body.Steps ((call (codes "x") ∷ []) ∷ []))
 
 x_is_new : OneNew (pods one ([] ++ Started ∷ [])) (pods one [])
 x_is_new = one_new_by_count one [] Started tt (lit≤ tt)
+
+-- two pods side by side under one lock, which the first of them is granted
+abbrev lock : LockId
+lock = mutex (codes "l")
+
+abbrev locked : Manifest
+locked =
+    workflow_of (codes "b")
+    (template (codes "main") (body.Steps ((call_with (codes "x") (codes "k") [] ∷ call_with (codes "y") (codes "k") [] ∷ []) ∷ [])) ∷ record (template (codes "k") body.Pod) { lock = Some lock } ∷ [])
+
+locks_before : locks locked J ≡ want.Lock at_x lock ∷ want.Lock at_y lock ∷ []
+locks_before = refl
+
+locks_after : locks locked (J ++ Granted at_x ∷ []) ≡ want.Lock at_y lock ∷ []
+locks_after = refl
+
+y_waits_on : NoneNew (locks locked (J ++ Granted at_x ∷ [])) (locks locked J)
+y_waits_on = none_new_locks_by_count locked J (Granted at_x) tt (lit≤ tt)

@@ -1,3 +1,4 @@
+pub mod NewLocks
 pub mod NewPods
 pub use Rattle.growth.specs.Growth
 pub use Rattle.meaning.specs.Answers

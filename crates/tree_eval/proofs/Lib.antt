@@ -1,5 +1,6 @@
 mod After
 mod Calling
+mod Counting
 mod Firsts
 mod KindNamed
 mod Pods

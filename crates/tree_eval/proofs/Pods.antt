@@ -1,20 +1,16 @@
 -- The first pod that passes a test, of the entrypoint or else of the exit handler, where none of so many from the first does.
-use Rattle.std.proofs.Common.{◌≡◌, ℕ, zero, suc, ◌+◌, ◌-◌, ◌^◌, ◌<◌, ◌≤◌, nat_le, Bool, true, false, cond, ◌&&◌, List, [], ◌∷◌, ◌++◌, length, length-append, take, Option, Some, None, option_map, refl, sym, ap, ◌∙◌, subst, arith}
+use Rattle.std.proofs.Common.{◌≡◌, ℕ, zero, suc, ◌+◌, ◌-◌, ◌<◌, ◌≤◌, nat_le, Bool, true, false, cond, ◌&&◌, List, [], ◌∷◌, ◌++◌, length, take, Option, Some, None, option_map, refl, sym, ap, ◌∙◌, subst, arith}
 use Rattle.std.specs.List.{find}
 use Rattle.std.specs.Option.{option_or}
-use Rattle.std.specs.Prelude.{SomeIff, MatchOption}
-use Rattle.std.proofs.lemmas.Bool.Decides.{nat_tests}
 use Rattle.std.proofs.lemmas.Bool.{leb-true, leb-false}
-use Rattle.std.proofs.lemmas.List.Elements.{filter-append}
 use Rattle.std.proofs.lemmas.List.Folds.{find-append}
 use Rattle.tree_types.specs.declared.want.Want.{Want}
 use Rattle.meaning.specs.declared.lines.Line.{Line}
 use Rattle.meaning.specs.Lines.{Made, lines_in}
-use Rattle.meaning.specs.Trees.{want_in, wants_in, exit_lines}
+use Rattle.meaning.specs.Trees.{wants_in, exit_lines}
 use Rattle.tree_state.specs.declared.kinds.WantKind.TheVariants.{Pod}
-use Rattle.tree_state.specs.Asking.{is_of}
 use Rattle.tree_state.specs.Finding.{pods_in, found_at, found_from}
-use Rattle.tree_state.proofs.Tellings.{filter_append}
+use Rattle.tree_state.proofs.OfKind.{kind_then}
 use Rattle.tree_eval.specs.declared.tops.Tops.{Tops}
 use Rattle.tree_eval.specs.Inside.Tops.{lines_of}
 use Rattle.tree_eval.specs.Pods.{NoneAmong}
@@ -151,9 +147,6 @@ module _ (t : Want → Bool) where
 abbrev pub pods_of : List Line → List Want
 pods_of ls = pods_in (wants_in ls)
 
-pods_then : (a b : List Line) → pods_of (a ++ b) ≡ pods_of a ++ pods_of b
-pods_then a b = ap pods_in (filter_append want_in a b) ∙ filter-append (is_of Pod) (wants_in a) (wants_in b)
-
 module _ (tops : Tops) (t : Want → Bool) where
   abbrev main_pods : List Want
   main_pods = pods_of (lines_in tops.main)
@@ -162,7 +155,7 @@ module _ (tops : Tops) (t : Want → Bool) where
   exit_pods = pods_of (exit_lines tops.exit)
 
   both : pods_of (lines_of tops) ≡ main_pods ++ exit_pods
-  both = pods_then (lines_in tops.main) (exit_lines tops.exit)
+  both = kind_then Pod (lines_in tops.main) (exit_lines tops.exit)
 
   all_found : find t (pods_of (lines_of tops)) ≡ option_or (find t main_pods) (find t exit_pods)
   all_found = ap (find t) both ∙ find-append t main_pods exit_pods
@@ -207,27 +200,3 @@ module _ (tops : Tops) (t : Want → Bool) where
 
       pub exit_known : (k : ℕ) → k ≡ length main_pods → NoneAmong k t (pods_of (lines_of tops))
       exit_known k is = subst (λ (n : ℕ). NoneAmong n t (pods_of (lines_of tops))) (sym is) (subst (NoneAmong (length main_pods) t) (sym both) (none_all t main_pods exit_pods main_none))
-
--- ---- counted
-
-counted : (tops : Tops) → length (pods_of (lines_of tops)) ≡ length (pods_of (lines_in tops.main)) + length (pods_of (exit_lines tops.exit))
-counted tops =
-    ap length (both tops (λ w. true)) ∙ length-append (pods_of (lines_in tops.main)) (pods_of (exit_lines tops.exit))
-
-module _ (tops : Tops) (e : Made) (a b : ℕ) (is : tops.exit ≡ Some e) (main : a ≡ length (pods_of (lines_in tops.main))) (exit : b ≡ length (pods_of (lines_in e))) where
-  together : length (pods_of (lines_of tops)) ≡ a + b
-  together =
-      let behind : length (pods_of (exit_lines tops.exit)) ≡ length (pods_of (lines_in e)) = ap (λ (o : Option Made). length (pods_of (exit_lines o))) is in
-      omega (arith, counted tops, behind, main, exit)
-
-  too_many : ((a + b < 2 ^ 64) → ⊥) → 2 ^ 64 ≤ a + b
-  too_many not = by (nat_le (2 ^ 64) (a + b)) refl
-    where
-      by : (c : Bool) → nat_le (2 ^ 64) (a + b) ≡ c → 2 ^ 64 ≤ a + b
-      by true is = grind (arith, nat_tests, is)
-      by false is = absurd (not (grind (arith, nat_tests, is)))
-
-  pub count_both : (o : Option ℕ) → SomeIff o (a + b < 2 ^ 64) (a + b) →
-      MatchOption o (2 ^ 64 ≤ length (pods_of (lines_of tops))) (λ count. count ≡ length (pods_of (lines_of tops)))
-  count_both None past = let many = too_many past in omega (arith, together, many)
-  count_both (Some c) fits = fits.1 ∙ sym together

@@ -6,7 +6,7 @@ ghost use Rattle.meaning.specs.Trees.{nodes_in, wants_in, beginnings_in};
 ghost use Rattle.tree_state.specs.Asking.{is_of, first};
 ghost use Rattle.tree_types.specs.declared.path.Sel.TheVariants.{Main};
 ghost use Rattle.locality.specs.Answered.{SameBut};
-ghost use Rattle.tree_state.specs.Finding.{passes, pods_in, next_tick, IsFound};
+ghost use Rattle.tree_state.specs.Finding.{passes, locks_in, pods_in, next_tick, IsFound};
 ghost use Rattle.scopes.specs.Values.{HasValuesOf};
 ghost use Rattle.meaning.specs.Trees as trees;
 ghost use Rattle.wf_manifest.specs.Valid.{Valid};
@@ -200,6 +200,18 @@ impl Tops {
         match &self.exit {
             None => Some(main),
             Some(exit) => main.checked_add(exit.pods()),
+        }
+    }
+
+    /// How many locks both ask for, where that can be counted.
+    pub fn locks(&self) -> Option<usize>
+        ensures { MatchOption result (2 ^ 64 ≤ length (locks_in (wants_in (inside.lines_of self.now))))
+            (λ count. count ≡ length (locks_in (wants_in (inside.lines_of self.now)))) }
+    {
+        let main = self.main.locks();
+        match &self.exit {
+            None => Some(main),
+            Some(exit) => main.checked_add(exit.locks()),
         }
     }
 

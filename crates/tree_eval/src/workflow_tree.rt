@@ -5,7 +5,7 @@ ghost use Rattle.std.specs.List.{find};
 ghost use Rattle.meaning.specs.Trees.{nodes_in, wants_in, beginnings_in};
 ghost use Rattle.tree_state.specs.declared.refused.TreeRefused.TheVariants as refused;
 ghost use Rattle.tree_state.specs.Asking.{is_of, first};
-ghost use Rattle.tree_state.specs.Finding.{passes, pods_in, next_tick, IsFound};
+ghost use Rattle.tree_state.specs.Finding.{passes, locks_in, pods_in, next_tick, IsFound};
 ghost use Rattle.tree_types.specs.declared.path.Sel.TheVariants.{Main};
 ghost use Rattle.tree_types.specs.declared.phase.Phase.TheVariants.{Running};
 ghost use Rattle.locality.specs.Answered.{SameBut};
@@ -198,6 +198,14 @@ impl WorkflowTree {
             (λ count. count ≡ length (pods_in (wants_in (lines_of self.now)))) }
     {
         self.tops.pods()
+    }
+
+    /// How many locks are asked for, where that can be counted.
+    pub fn locks(&self) -> Option<usize>
+        ensures { MatchOption result (2 ^ 64 ≤ length (locks_in (wants_in (lines_of self.now))))
+            (λ count. count ≡ length (locks_in (wants_in (lines_of self.now)))) }
+    {
+        self.tops.locks()
     }
 
     /// The first want of a kind, in tree order, found without a walk over what asks for none of the kind.

@@ -9,8 +9,6 @@ use Rattle.meaning.specs.Trees.{tree}
 use Rattle.tree_state.specs.declared.refused.TreeRefused.{TreeRefused}
 use Rattle.tree_state.specs.declared.refused.TreeRefused.TheVariants.{TooLarge, Memory}
 use Rattle.tree_eval.specs.Whole.{Whole, whole, meant_whole}
-use Rattle.tree_incr.specs.declared.new_pods.NewPods.{NewPods}
-use Rattle.tree_incr.specs.NewPods.{TellsNewPods}
 use Rattle.tree_incr.specs.Inside.{IsTreeOf}
 use Rattle.tree_incr.specs.Workflows.{Workflow, with_fact, added}
 
@@ -65,8 +63,12 @@ module _ (w : Workflow) (f : Fact) (K : Facts) (more : K ≡ w.facts ++ f ∷ []
 
 -- ---- the same of equal facts
 
-pub tree_of : (m : Manifest) (J K : Facts) (t : Whole) → K ≡ J → t ≡ whole m (answers K) → IsTreeOf t m J
+tree_of : (m : Manifest) (J K : Facts) (t : Whole) → K ≡ J → t ≡ whole m (answers K) → IsTreeOf t m J
 tree_of m J K t same is = record { meant = subst (λ (x : Facts). t ≡ whole m (answers x)) same is }
 
-pub tells_of : (m : Manifest) (J K : Facts) (r : NewPods) → K ≡ J → TellsNewPods r record { manifest = m; facts = J } → TellsNewPods r record { manifest = m; facts = K }
-tells_of m J K r same told = subst (λ (x : Facts). TellsNewPods r record { manifest = m; facts = x }) (sym same) told
+-- what is told of a workflow by its tree over one fact more is told of it over the facts that are kept
+pub told_after : (Tells : Workflow → Type 0) (w : Workflow) (f : Fact) (K : Facts) (t : Whole) → K ≡ w.facts ++ f ∷ [] → Ok t ≡ meant_whole w.manifest (answers K) →
+    (IsTreeOf t w.manifest (w.facts ++ f ∷ []) → Tells (with_fact w f)) → Tells record { manifest = w.manifest; facts = K }
+told_after Tells w f K t more given told =
+    subst (λ (x : Facts). Tells record { manifest = w.manifest; facts = x }) (sym more)
+    (told (tree_of w.manifest (w.facts ++ f ∷ []) K t more (tree_within w f K more t given)))

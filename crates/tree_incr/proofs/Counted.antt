@@ -1,4 +1,4 @@
--- What counts tell of the pods that a workflow asks for.
+-- What counts tell of the pods and locks that a workflow asks for.
 use Rattle.std.proofs.Common.{◌≡◌, ℕ, ◌+◌, ◌≤◌, Bool, true, false, cond, List, [], ◌∷◌, ◌++◌, length, Option, Some, refl, sym, ap, ◌∙◌, subst, inl, inr, arith}
 use Rattle.std.specs.List.{find}
 use Rattle.tree_types.specs.declared.path.Path.{Path}
@@ -15,10 +15,12 @@ use Rattle.meaning.specs.Trees.{tree, wants}
 use Rattle.growth.specs.Growth.{Among}
 use Rattle.askings.specs.Owners.{WaitsAsk}
 use Rattle.pod_laws.specs.NewPods.{pods, IsAnswer, answered, NoneNewByCount, OneNewByCount, NamesAreKept, FrontIsKept}
+use Rattle.pod_laws.specs.NewLocks.{locks, granted, NoneNewLocksByCount}
 use Rattle.pod_laws.proofs.Asked.{pod_of}
 use Rattle.tree_incr.specs.declared.new_pods.NewPods.{NewPods}
 use Rattle.tree_incr.specs.declared.new_pods.NewPods.TheVariants.{None, OneAtMost, Unknown}
 use Rattle.tree_incr.specs.NewPods.{TellsNewPods, FitsCounts}
+use Rattle.tree_incr.specs.NewLocks.{LastAddsNoLock}
 
 -- ---- a node that is found by its path
 
@@ -65,3 +67,9 @@ module _ (none_new : NoneNewByCount) (one_new : OneNewByCount) (names : NamesAre
     pods = one_new m J f is (omega (arith, a, b, n, fits));
   }
   told_by many before now Unknown a b n fits = tt
+
+-- ---- locks
+
+pub no_lock_by : NoneNewLocksByCount → (m : Manifest) (J : Facts) (f : Fact) → IsAnswer m J f → (many before now : ℕ) → many ≡ granted f →
+    before ≡ length (locks m J) → now ≡ length (locks m (J ++ f ∷ [])) → many + now ≤ before → LastAddsNoLock record { manifest = m; facts = J ++ f ∷ [] }
+no_lock_by law m J f is many before now a b n fits = record { before = J; fact = f; last = refl; locks = law m J f is (omega (arith, a, b, n, fits)) }

@@ -1,4 +1,5 @@
 pub mod Inside
+pub mod NewLocks
 pub mod NewPods
 pub mod WorkflowCode
 pub mod Workflows

@@ -16,12 +16,17 @@ ghost use Rattle.pod_laws.specs.NewPods.{pods};
 ghost use Rattle.tree_eval.specs.Whole.{meant_whole};
 ghost use Rattle.tree_incr.specs.Workflows.{unstarted, with_fact, added, told};
 ghost use Rattle.tree_incr.specs.NewPods.{TellsNewPods};
+ghost use Rattle.tree_incr.specs.NewLocks.{LastAddsNoLock};
 
+use crate::answered::Answered;
+use crate::new_locks::none_by_counts;
 use crate::new_pods::{NewPods, by_counts};
 use crate::next::{next_tree, path_of, unstarted_tree};
 use askings::laws::waits_ask;
 use base_types::{Memory, TryCopy};
-use pod_laws::laws::{front_is_kept, names_are_kept, none_new_by_count, one_new_by_count};
+use pod_laws::laws::{
+    front_is_kept, names_are_kept, none_new_by_count, none_new_locks_by_count, one_new_by_count,
+};
 use shared_facts::SharedFacts;
 use std::marker::Model;
 use std::sync::Arc;
@@ -42,6 +47,7 @@ pub struct TreeState {
     facts: SharedFacts,
     pub(crate) tree: Arc<WorkflowTree>,
     new_pods: NewPods,
+    adds_no_lock: bool,
 }
 
 // Written out, so that proofs about code that drops a state see one call.
@@ -53,6 +59,7 @@ impl Drop for TreeState {
             facts: _,
             tree: _,
             new_pods: _,
+            adds_no_lock: _,
         } = self;
     }
 }
@@ -90,6 +97,7 @@ impl TreeState {
             facts,
             tree: Arc::new(alloc, tree)?,
             new_pods: NewPods::Unknown,
+            adds_no_lock: false,
         })
     }
 
@@ -105,7 +113,8 @@ impl TreeState {
         facts.add(fact)?;
         let tree = self.grown(&facts, &changed)?;
         let new_pods = self.new_pods_in(answered, &tree);
-        Ok(self.over(facts, tree, new_pods)?)
+        let adds_no_lock = self.adds_no_lock_in(answered, &tree);
+        Ok(self.over(facts, tree, new_pods, adds_no_lock)?)
     }
 
     // The tree over these facts, one more than those here.
@@ -129,14 +138,21 @@ impl TreeState {
         )
     }
 
-    // How many pods a fact answers, where it answers what is asked for.
-    fn answered_by(&self, fact: &Fact) -> Option<usize>
+    // How many pods and locks a fact answers, where it answers what is asked for.
+    fn answered_by(&self, fact: &Fact) -> Option<Answered>
         ensures { IsAnsweredBy self.now fact.now result }
     {
         match fact {
-            Fact::Settled(path, _) => { if self.runs_pod(path) { Some(1) } else { None } }
+            Fact::Settled(path, _) => {
+                if self.runs_pod(path) {
+                    Some(Answered { pods: 1, locks: 0 })
+                } else {
+                    None
+                }
+            }
+            Fact::Granted(_) => Some(Answered { pods: 0, locks: 1 }),
             Fact::Carried(_, _) | Fact::Begun(_) => None,
-            _ => Some(0),
+            _ => Some(Answered { pods: 0, locks: 0 }),
         }
     }
 
@@ -153,7 +169,7 @@ impl TreeState {
     }
 
     // What is known of the pods that are asked for in the tree over one fact more, which answers so many.
-    fn new_pods_in(&self, answered: Option<usize>, tree: &WorkflowTree) -> NewPods
+    fn new_pods_in(&self, answered: Option<Answered>, tree: &WorkflowTree) -> NewPods
         ensures { (f : Recordable) → IsAnsweredBy self.now f answered
             → IsTreeOf tree.now self.now.manifest (self.now.facts ++ f ∷ [])
             → TellsNewPods result (with_fact self.now f) }
@@ -172,18 +188,41 @@ impl TreeState {
         let Some(now) = tree.pods() else {
             return NewPods::Unknown;
         };
-        by_counts(answered, before, now)
+        by_counts(answered.pods, before, now)
     }
 
-    // The same manifest over other facts and their tree, and what is known of the pods that are asked for.
+    // Whether the tree over one fact more, which answers so many, is known to ask for no lock that is not asked for here.
+    fn adds_no_lock_in(&self, answered: Option<Answered>, tree: &WorkflowTree) -> bool
+        ensures { (f : Recordable) → IsAnsweredBy self.now f answered
+            → IsTreeOf tree.now self.now.manifest (self.now.facts ++ f ∷ [])
+            → IsTrue result → LastAddsNoLock (with_fact self.now f) }
+    {
+        lines_are_meant();
+        none_new_locks_by_count();
+        let Some(answered) = answered else {
+            return false;
+        };
+        let Some(before) = self.tree.locks() else {
+            return false;
+        };
+        let Some(now) = tree.locks() else {
+            return false;
+        };
+        none_by_counts(answered.locks, before, now)
+    }
+
+    // The same manifest over other facts and their tree, and what is known of the pods and locks that are asked for.
     fn over(
         &self,
         facts: SharedFacts,
         tree: WorkflowTree,
         new_pods: NewPods,
+        adds_no_lock: bool,
     ) -> Result<TreeState, Memory>
         requires tree { IsTreeOf tree self.now.manifest facts }
         requires new_pods { TellsNewPods new_pods record { manifest = self.now.manifest; facts = facts } }
+        requires adds_no_lock { IsTrue adds_no_lock
+            → LastAddsNoLock record { manifest = self.now.manifest; facts = facts } }
         ensures { IfOk result (λ state. state ≡ record { manifest = self.now.manifest; facts = facts }) }
     {
         let alloc = self.valid.manifest().name.allocator();
@@ -193,6 +232,7 @@ impl TreeState {
             facts,
             tree: Arc::new(alloc, tree)?,
             new_pods,
+            adds_no_lock,
         })
     }
 
@@ -217,6 +257,13 @@ impl TreeState {
         ensures { TellsNewPods result self.now }
     {
         self.new_pods
+    }
+
+    /// Whether the workflow is known to ask for no lock that it did not ask for before its last fact.
+    pub fn adds_no_lock(&self) -> bool
+        ensures { IsTrue result → LastAddsNoLock self.now }
+    {
+        self.adds_no_lock
     }
 
     /// The phase of the workflow.
@@ -278,6 +325,7 @@ impl TryCopy for TreeState {
             facts: self.facts.share()?,
             tree: Arc::try_clone(&self.tree)?,
             new_pods: self.new_pods,
+            adds_no_lock: self.adds_no_lock,
         })
     }
 }

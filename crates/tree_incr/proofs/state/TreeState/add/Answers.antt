@@ -1,8 +1,10 @@
 -- The tree over one fact more, or too many nodes.
-use Rattle.std.proofs.Common.{◌≡◌, [], ◌∷◌, ◌++◌, ap, ◌∙◌}
+use Rattle.std.proofs.Common.{◌≡◌, [], ◌∷◌, ◌++◌, IsTrue, ap, ◌∙◌}
 use Rattle.meaning.specs.Answers.{Facts}
 use Rattle.tree_incr.specs.Workflows.{Workflow}
-use Rattle.tree_incr.proofs.Adding.{is_told, tree_within, added_within, added_past, tree_of, tells_of}
+use Rattle.tree_incr.specs.NewPods.{TellsNewPods}
+use Rattle.tree_incr.specs.NewLocks.{LastAddsNoLock}
+use Rattle.tree_incr.proofs.Adding.{is_told, tree_within, added_within, added_past, told_after}
 use Rattle.tree_incr.proofs.state.TreeState.add.Goals as goal
 
 pub grown-requires : goal.grown-requires
@@ -30,7 +32,12 @@ pub over-requires-clause-new_pods : goal.over-requires-clause-new_pods
 over-requires-clause-new_pods c =
     let w = c.args.self.now in
     let more : c.add.new.self ≡ w.facts ++ c.args.fact ∷ [] = c.in_ok-add.ensures.ok ∙ ap (λ (J : Facts). J ++ c.args.fact ∷ []) (c.in_ok-facts.ensures ∙ ap (λ (w : Workflow). w.facts) c.self.view_is) in
-    let made = tree_within w c.args.fact c.add.new.self more c.in_ok-tree.tree (c.in_ok-tree.ensures (is_told c.in_ok-tree.tree)) in
-    let tree = tree_of w.manifest (w.facts ++ c.args.fact ∷ []) c.add.new.self c.in_ok-tree.tree more made in
-    tells_of w.manifest (w.facts ++ c.args.fact ∷ []) c.add.new.self c.new_pods_in-new_pods.result more
-    (c.new_pods_in-new_pods.ensures c.args.fact c.answered_by-answered.ensures tree)
+    told_after (TellsNewPods c.new_pods_in-new_pods.result) w c.args.fact c.add.new.self c.in_ok-tree.tree more (c.in_ok-tree.ensures (is_told c.in_ok-tree.tree))
+    (c.new_pods_in-new_pods.ensures c.args.fact c.answered_by-answered.ensures)
+
+pub over-requires-clause-adds_no_lock : goal.over-requires-clause-adds_no_lock
+over-requires-clause-adds_no_lock c =
+    let w = c.args.self.now in
+    let more : c.add.new.self ≡ w.facts ++ c.args.fact ∷ [] = c.in_ok-add.ensures.ok ∙ ap (λ (J : Facts). J ++ c.args.fact ∷ []) (c.in_ok-facts.ensures ∙ ap (λ (w : Workflow). w.facts) c.self.view_is) in
+    told_after (λ (x : Workflow). IsTrue c.adds_no_lock_in-adds_no_lock.result → LastAddsNoLock x) w c.args.fact c.add.new.self c.in_ok-tree.tree more (c.in_ok-tree.ensures (is_told c.in_ok-tree.tree))
+    (c.adds_no_lock_in-adds_no_lock.ensures c.args.fact c.answered_by-answered.ensures)
