@@ -1,6 +1,6 @@
 //! A task that ends where no other task sees it.
 
-ghost use Rattle.std.specs.Prelude.{◌≡◌, IsTrue};
+ghost use Rattle.std.specs.Prelude.{◌≡◌, ◌↔◌, IsTrue};
 ghost use Rattle.base_types.specs.Names.{is_among};
 ghost use Rattle.depends_expr.specs.Truth.{names_of};
 ghost use Rattle.task_order.specs.Orders.{waited};
@@ -69,7 +69,7 @@ fn is_bad(phase: Phase) -> bool
 /// Whether a task of a DAG that ran makes what no other task sees: it runs on; or it ends, no task waits for it, and it does not
 /// doom the DAG.
 pub fn is_unseen(dag: &Dag, task: &Task, new: &State) -> bool
-    ensures { IsTrue result → IsUnseen dag.now task.now new.now }
+    ensures { IsTrue result ↔ IsUnseen dag.now task.now new.now }
 {
     if !new.is_finished() {
         return true;

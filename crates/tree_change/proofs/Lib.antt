@@ -12,3 +12,4 @@ mod Rows
 mod Sharing
 mod Tagging
 mod Tasks
+mod Turns

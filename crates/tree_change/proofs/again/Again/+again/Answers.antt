@@ -1,5 +1,5 @@
 -- What a walk that is made again gives.
-use Rattle.std.proofs.Common.{rules, not, ◌||◌, suc, get_or, take, Result, ◌≡◌, ℕ, ◌+◌, ◌<◌, ◌≤◌, List, ◌∷◌, ◌++◌, length, Ok, Err, codes, refl, sym, ap, ◌∙◌, subst, arith, IsTrue, All}
+use Rattle.std.proofs.Common.{rules, suc, get_or, take, ◌≡◌, ℕ, ◌+◌, ◌<◌, ◌≤◌, List, ◌∷◌, ◌++◌, length, Ok, Err, codes, refl, sym, ap, ◌∙◌, subst, arith, IsTrue, All}
 use Rattle.std.specs.Prelude.{IfSome, Option, option_copied}
 use Rattle.serde_json.specs.Data.{Data}
 use Rattle.fanout.specs.Items.{is_whole, items}
@@ -24,16 +24,15 @@ use Rattle.tree_change.proofs.Keeping.{group_keeps, steps_done, too_little}
 use Rattle.tree_change.proofs.Passing.{call_low, front_fails, front_shared, front_alone, front_went, front_long, group_stood, members_seen, group_fails, next_front, next_went, next_long, next_room, last_front, groups_end}
 use Rattle.tree_change.proofs.Placing.{item_told, item_had, item_fails, item_put, items_listed, items_fail, member_low, member_had, member_fails, member_put, members_listed, members_fail}
 use Rattle.tree_walk.proofs.Rooms.{gives_as, by_err, part_fails, few_in_row}
-use Rattle.meaning.specs.Dags.{task_place, standings, dag_made}
+use Rattle.meaning.specs.Dags.{standings, dag_made}
 use Rattle.locality.specs.Answered.{SameBut}
-use Rattle.tree_state.specs.declared.refused.TreeRefused.{TreeRefused}
-use Rattle.dag_board.specs.Boards.{IsBoard, IsTurn, stands_at, seen_by}
-use Rattle.dag_board.specs.Turns.{Tells}
-use Rattle.dag_board.proofs.Writing.{waiting_is_shown}
-use Rattle.tree_walk.specs.Inside.Tasks.{stood_count, count_at, GivesTask, GivesBoard}
-use Rattle.tree_walk.proofs.Tasks.{got, is_low, task_waits, stands_free, task_omitted, task_no_room, task_ready, task_begun, task_fails, tasks_next, tasks_fail}
+use Rattle.dag_board.specs.Boards.{IsBoard, stands_at}
+use Rattle.tree_walk.specs.Inside.Tasks.{stood_count, count_at, GivesBoard}
+use Rattle.tree_walk.proofs.Tasks.{is_low, tasks_next, tasks_fail}
 use Rattle.tree_walk.proofs.Dags.{named_at, dag_fails, dag_done}
-use Rattle.tree_change.proofs.Tasks.{walkable_dag, begins_now, had_begun, stays_as, inner_as, same_inside, was_inside}
+use Rattle.tree_change.specs.Inside.Resuming.{calls_now}
+use Rattle.tree_change.proofs.Turns.{next_turn, next_given, next_waits, next_free, next_omitted, next_has_no_room, free_waits, free_begins, free_begun, free_fails, stayed_shared, stayed_fails, inner_gives, inner_fails}
+use Rattle.tree_change.proofs.Tasks.{walkable_dag, same_inside, was_inside}
 use Rattle.tree_change.proofs.Given.{given_some}
 use Rattle.tree_change.proofs.again.Again.+again.Goals as goal
 
@@ -582,18 +581,9 @@ other_dag-returns g t c =
 
 pub task-returns-in_err-take-in-Denied : goal.task-returns-in_err-take-in-Denied
 task-returns-in_err-take-in-Denied g t c =
-    let m = c.args.self.now.walk.manifest.now in
-    let A = g.R.Recorded.answers c.args.self.now.walk.recorded.now in
-    let scopes = c.args.self.now.walk.globals.now in
-    let called = calls m A scopes c.args.left in
-    let i = c.get-i.result.now in
-    let here = got c.args.plan.now.order c.args.k i c.get-i.ensures in
-    let turn : IsTurn c.args.dag.now c.args.plan.now c.args.k i c.get-task.result.now = record { low = c.requires.low; here = here; task = c.get-task.ensures } in
-    let tells = subst (λ v. Tells c.args.dag.now c.args.plan.now c.args.board.now i v) c.in-Denied.is c.in_ok-verdict.ensures in
-    let GivesIt = λ (r : Result (Unit {0}) TreeRefused) (n : ℕ). GivesTask c.args.room.now c.take.new.self r (IsBoard A called c.args.place.now c.args.scope.now c.args.dag.now (take (suc c.args.k) c.args.plan.now.order) c.args.board.now) (stood_count (stands_at A called c.args.place.now c.args.scope.now c.args.dag.now n)) in
-    by_err (λ r. GivesIt r (get_or c.args.plan.now.order c.args.k 0)) c.from_residual-in_err-take-in-Denied.result c.in_err-take-in-Denied.field-0.0 c.from_residual-in_err-take-in-Denied.ensures.1
-    (subst (λ n. GivesIt (Err c.in_err-take-in-Denied.field-0.0) n) (sym here)
-    (task_no_room A called (alike m A scopes c.args.left) c.args.place.now c.args.scope.now c.args.dag.now c.args.plan.now c.args.k i c.get-task.result.now turn c.args.board.now c.args.board.now c.in-Denied.branch c.args.room.now c.take.new.self c.in_err-take-in-Denied.field-0.0 c.requires.board tells c.in_err-take-in-Denied.ensures.takes))
+    next_has_no_room g.R.Recorded.answers c.args.self.now c.args.left c.args.place.now c.args.scope.now c.args.dag.now c.args.plan.now c.args.k c.get-i.result.now c.get-task.result.now c.requires.low c.get-i.ensures c.get-task.ensures
+    c.args.board.now c.args.room.now c.take.new.self c.in_ok-verdict.field-0 c.in-Denied.branch c.from_residual-in_err-take-in-Denied.result c.in_err-take-in-Denied.field-0.0 c.from_residual-in_err-take-in-Denied.ensures.1
+    c.requires.board c.in-Denied.is c.in_ok-verdict.ensures c.in_err-take-in-Denied.ensures.takes
 
 pub task-omit-requires-clause-place : goal.task-omit-requires-clause-place
 task-omit-requires-clause-place g t c = is_low c.args.dag.now.tasks c.get-i.result.now c.get-task.result.now c.get-task.ensures
@@ -603,53 +593,25 @@ task-omit-requires-clause-named g t c = named_at c.args.dag.now.tasks c.requires
 
 pub task-freed-requires : goal.task-freed-requires
 task-freed-requires g t c κs within =
-    let m = c.args.self.now.walk.manifest.now in
-    let A = g.R.Recorded.answers c.args.self.now.walk.recorded.now in
-    let scopes = c.args.self.now.walk.globals.now in
-    let called = calls m A scopes c.args.left in
-    let i = c.get-i.result.now in
-    let here = got c.args.plan.now.order c.args.k i c.get-i.ensures in
-    let turn : IsTurn c.args.dag.now c.args.plan.now c.args.k i c.get-task.result.now = record { low = c.requires.low; here = here; task = c.get-task.ensures } in
-    let tells = subst (λ v. Tells c.args.dag.now c.args.plan.now c.args.board.now i v) c.in-Holds.is c.in_ok-verdict.ensures in
-    let free = stands_free A called (alike m A scopes c.args.left) c.args.place.now c.args.scope.now c.args.dag.now c.args.plan.now c.args.k i c.get-task.result.now turn c.args.board.now c.requires.board tells in
-    let place = is_low c.args.dag.now.tasks i c.get-task.result.now c.get-task.ensures in
+    let turn = next_turn g.R.Recorded.answers c.args.self.now c.args.left c.args.place.now c.args.scope.now c.args.dag.now c.args.plan.now c.args.k c.get-i.result.now c.get-task.result.now c.requires.low c.get-i.ensures c.get-task.ensures in
+    let free = next_free g.R.Recorded.answers c.args.self.now c.args.left c.args.place.now c.args.scope.now c.args.dag.now c.args.plan.now c.args.k c.get-i.result.now c.get-task.result.now c.requires.low c.get-i.ensures c.get-task.ensures c.args.board.now c.in_ok-verdict.field-0 c.requires.board c.in-Holds.is c.in_ok-verdict.ensures in
+    let place = is_low c.args.dag.now.tasks c.get-i.result.now c.get-task.result.now c.get-task.ensures in
     (omega arith, (within, (c.requires.resumes, (c.requires.walkable, (c.requires.plan, (turn, (c.requires.board, (free, (place, (omega (arith, c.requires.shallow), c.requires.were))))))))))
 
 pub task-returns-in-Waits : goal.task-returns-in-Waits
 task-returns-in-Waits g t c =
-    let m = c.args.self.now.walk.manifest.now in
-    let A = g.R.Recorded.answers c.args.self.now.walk.recorded.now in
-    let scopes = c.args.self.now.walk.globals.now in
-    let called = calls m A scopes c.args.left in
-    let i = c.get-i.result.now in
-    let here = got c.args.plan.now.order c.args.k i c.get-i.ensures in
-    let turn : IsTurn c.args.dag.now c.args.plan.now c.args.k i c.get-task.result.now = record { low = c.requires.low; here = here; task = c.get-task.ensures } in
-    subst (λ n. (IsBoard A called c.args.place.now c.args.scope.now c.args.dag.now (take (suc c.args.k) c.args.plan.now.order) c.args.board.now) × (c.args.room.now + (stood_count (stands_at A called c.args.place.now c.args.scope.now c.args.dag.now n)) ≡ c.args.room.now)) (sym here)
-    (task_waits A called (alike m A scopes c.args.left) c.args.place.now c.args.scope.now c.args.dag.now c.args.plan.now c.args.k i c.get-task.result.now turn c.args.board.now c.args.room.now c.in_ok-verdict.field-0 waiting_is_shown c.requires.plan c.requires.board c.in-Waits.is c.in_ok-verdict.ensures)
+    next_waits g.R.Recorded.answers c.args.self.now c.args.left c.args.place.now c.args.scope.now c.args.dag.now c.args.plan.now c.args.k c.get-i.result.now c.get-task.result.now c.requires.low c.get-i.ensures c.get-task.ensures
+    c.args.board.now c.args.room.now c.in_ok-verdict.field-0 c.requires.plan c.requires.board c.in-Waits.is c.in_ok-verdict.ensures
 
 pub task-returns-in_ok-omit-in-Denied : goal.task-returns-in_ok-omit-in-Denied
 task-returns-in_ok-omit-in-Denied g t c =
-    let m = c.args.self.now.walk.manifest.now in
-    let A = g.R.Recorded.answers c.args.self.now.walk.recorded.now in
-    let scopes = c.args.self.now.walk.globals.now in
-    let called = calls m A scopes c.args.left in
-    let i = c.get-i.result.now in
-    let here = got c.args.plan.now.order c.args.k i c.get-i.ensures in
-    let turn : IsTurn c.args.dag.now c.args.plan.now c.args.k i c.get-task.result.now = record { low = c.requires.low; here = here; task = c.get-task.ensures } in
-    let tells = subst (λ v. Tells c.args.dag.now c.args.plan.now c.args.board.now i v) c.in-Denied.is c.in_ok-verdict.ensures in
-    subst (λ n. (IsBoard A called c.args.place.now c.args.scope.now c.args.dag.now (take (suc c.args.k) c.args.plan.now.order) c.omit.new.self) × (c.take.new.self + (stood_count (stands_at A called c.args.place.now c.args.scope.now c.args.dag.now n)) ≡ c.args.room.now)) (sym here)
-    (task_omitted A called (alike m A scopes c.args.left) c.args.place.now c.args.scope.now c.args.dag.now c.args.plan.now c.args.k i c.get-task.result.now turn c.args.board.now c.omit.new.self c.in-Denied.branch c.args.room.now c.take.new.self c.requires.board tells c.in_ok-take-in-Denied.ensures.takes c.in_ok-omit-in-Denied.ensures)
+    next_omitted g.R.Recorded.answers c.args.self.now c.args.left c.args.place.now c.args.scope.now c.args.dag.now c.args.plan.now c.args.k c.get-i.result.now c.get-task.result.now c.requires.low c.get-i.ensures c.get-task.ensures
+    c.args.board.now c.omit.new.self c.args.room.now c.take.new.self c.in_ok-verdict.field-0 c.in-Denied.branch c.requires.board c.in-Denied.is c.in_ok-verdict.ensures c.in_ok-take-in-Denied.ensures.takes c.in_ok-omit-in-Denied.ensures
 
 pub task-returns-in-Holds : goal.task-returns-in-Holds
 task-returns-in-Holds g t c =
-    let m = c.args.self.now.walk.manifest.now in
-    let A = g.R.Recorded.answers c.args.self.now.walk.recorded.now in
-    let scopes = c.args.self.now.walk.globals.now in
-    let called = calls m A scopes c.args.left in
-    let i = c.get-i.result.now in
-    let here = got c.args.plan.now.order c.args.k i c.get-i.ensures in
-    let turn : IsTurn c.args.dag.now c.args.plan.now c.args.k i c.get-task.result.now = record { low = c.requires.low; here = here; task = c.get-task.ensures } in
-    subst (λ n. GivesTask c.args.room.now c.freed.new.room c.freed.result (IsBoard A called c.args.place.now c.args.scope.now c.args.dag.now (take (suc c.args.k) c.args.plan.now.order) c.freed.new.board) (stood_count (stands_at A called c.args.place.now c.args.scope.now c.args.dag.now n))) (sym here) c.freed.ensures
+    next_given g.R.Recorded.answers c.args.self.now c.args.left c.args.place.now c.args.scope.now c.args.dag.now c.args.plan.now c.args.k c.get-i.result.now c.get-task.result.now c.requires.low c.get-i.ensures c.get-task.ensures
+    c.freed.new.board c.args.room.now c.freed.new.room c.freed.result c.freed.ensures
 
 pub tasks-loop-k-init : goal.tasks-loop-k-init
 tasks-loop-k-init g t c =
@@ -685,83 +647,33 @@ tasks-loop-k-preserved g t c =
 
 pub freed-returns-in-Some : goal.freed-returns-in-Some
 freed-returns-in-Some g t c =
-    let m = c.args.self.now.walk.manifest.now in
-    let A = g.R.Recorded.answers c.args.self.now.walk.recorded.now in
-    let B = g.R.Recorded.answers c.args.self.now.before.now in
-    let scopes = c.args.self.now.walk.globals.now in
-    let called = calls m A scopes c.args.left in
-    let seen = seen_by A called c.args.place.now c.args.scope.now c.args.dag.now c.args.task.now in
-    let inner = seen ++ c.args.scope.now in
-    let at = task_place c.args.place.now c.args.i c.args.task.now in
-    let begins = not c.args.dag.now.fail_fast || A.begun at.sels in
-    let on = had_begun m A B scopes c.args.left c.args.place.now c.args.scope.now c.args.dag.now c.args.plan.now c.requires.plan c.args.j c.args.were.now c.requires.were c.args.rest.now c.requires.resumes.same c.args.i c.args.task.now c.requires.turn.task c.in-Some.old.now c.in-Some.ensures begins c.requires.free in
-    let begun = begins_now A called c.args.place.now at c.args.scope.now c.args.dag.now c.args.i c.args.task.now (stands_at A called c.args.place.now c.args.scope.now c.args.dag.now c.args.i) seen begins c.requires.free refl refl on in
-    let is = stays_as m A B scopes c.args.left c.args.place.now c.args.scope.now c.args.dag.now c.args.plan.now c.requires.plan c.args.j c.args.were.now c.requires.were c.args.rest.now c.requires.resumes.same c.args.i c.args.task.now c.requires.turn.task c.in-Some.old.now c.in-Some.ensures begun in
-    task_begun A called (alike m A scopes c.args.left) c.args.place.now c.args.scope.now c.args.dag.now c.args.plan.now c.args.k c.args.i c.args.task.now c.requires.turn at refl c.requires.free begins refl on inner (λ tag. refl) c.args.board.now c.begin.new.self c.in_ok-same.same c.args.room.now c.shared.new.room c.requires.board
-    (gives_as c.args.room.now c.shared.new.room (Ok c.in_ok-same.same) c.in-Some.old.now (called (codes "tasks.") at inner c.args.task.now.call) is c.in_ok-same.ensures)
-    c.in_ok-begin.ensures
+    stayed_shared g.R.Recorded.answers c.args.self.now c.args.left c.args.place.now c.args.scope.now c.args.dag.now c.args.plan.now c.args.k c.args.i c.args.task.now c.requires.turn c.requires.plan c.args.j c.args.were.now c.requires.were c.args.rest.now c.requires.resumes
+    c.requires.free c.in-Some.old.now c.in-Some.ensures c.args.board.now c.begin.new.self c.in_ok-same.same c.args.room.now c.shared.new.room c.requires.board c.in_ok-same.ensures c.in_ok-begin.ensures
 
 pub freed-returns-in_err-same : goal.freed-returns-in_err-same
 freed-returns-in_err-same g t c =
-    let m = c.args.self.now.walk.manifest.now in
-    let A = g.R.Recorded.answers c.args.self.now.walk.recorded.now in
-    let B = g.R.Recorded.answers c.args.self.now.before.now in
-    let scopes = c.args.self.now.walk.globals.now in
-    let called = calls m A scopes c.args.left in
-    let seen = seen_by A called c.args.place.now c.args.scope.now c.args.dag.now c.args.task.now in
-    let inner = seen ++ c.args.scope.now in
-    let at = task_place c.args.place.now c.args.i c.args.task.now in
-    let begins = not c.args.dag.now.fail_fast || A.begun at.sels in
-    let on = had_begun m A B scopes c.args.left c.args.place.now c.args.scope.now c.args.dag.now c.args.plan.now c.requires.plan c.args.j c.args.were.now c.requires.were c.args.rest.now c.requires.resumes.same c.args.i c.args.task.now c.requires.turn.task c.in-Some.old.now c.in-Some.ensures begins c.requires.free in
-    let begun = begins_now A called c.args.place.now at c.args.scope.now c.args.dag.now c.args.i c.args.task.now (stands_at A called c.args.place.now c.args.scope.now c.args.dag.now c.args.i) seen begins c.requires.free refl refl on in
-    let is = stays_as m A B scopes c.args.left c.args.place.now c.args.scope.now c.args.dag.now c.args.plan.now c.requires.plan c.args.j c.args.were.now c.requires.were c.args.rest.now c.requires.resumes.same c.args.i c.args.task.now c.requires.turn.task c.in-Some.old.now c.in-Some.ensures begun in
-    by_err (λ r. GivesTask c.args.room.now c.shared.new.room r (IsBoard A called c.args.place.now c.args.scope.now c.args.dag.now (take (suc c.args.k) c.args.plan.now.order) c.args.board.now) (stood_count (stands_at A called c.args.place.now c.args.scope.now c.args.dag.now c.args.i))) c.from_residual.result c.in_err-same.field-0.0 c.from_residual.ensures.1
-    (task_fails A called (alike m A scopes c.args.left) c.args.place.now c.args.scope.now c.args.dag.now c.args.plan.now c.args.k c.args.i c.args.task.now c.requires.turn at refl c.requires.free begins refl on inner (λ tag. refl) c.args.board.now c.args.room.now c.shared.new.room c.in_err-same.field-0.0
-    (gives_as c.args.room.now c.shared.new.room (Err c.in_err-same.field-0.0) c.in-Some.old.now (called (codes "tasks.") at inner c.args.task.now.call) is c.in_err-same.ensures))
+    stayed_fails g.R.Recorded.answers c.args.self.now c.args.left c.args.place.now c.args.scope.now c.args.dag.now c.args.plan.now c.args.k c.args.i c.args.task.now c.requires.turn c.requires.plan c.args.j c.args.were.now c.requires.were c.args.rest.now c.requires.resumes
+    c.requires.free c.in-Some.old.now c.in-Some.ensures c.args.board.now c.args.room.now c.shared.new.room c.from_residual.result c.in_err-same.field-0.0 c.from_residual.ensures.1 c.in_err-same.ensures
 
 pub freed-begun-requires : goal.freed-begun-requires
 freed-begun-requires g t c κs within =
-    let m = c.args.self.now.walk.manifest.now in
-    let A = g.R.Recorded.answers c.args.self.now.walk.recorded.now in
-    let scopes = c.args.self.now.walk.globals.now in
-    let called = calls m A scopes c.args.left in
-    let seen = seen_by A called c.args.place.now c.args.scope.now c.args.dag.now c.args.task.now in
-    let begun = begins_now A called c.args.place.now c.in_ok-at.at c.args.scope.now c.args.dag.now c.args.i c.args.task.now (stands_at A called c.args.place.now c.args.scope.now c.args.dag.now c.args.i) seen c.begins.result c.requires.free c.in_ok-at.ensures c.begins.ensures c.if-not-begins.false in
+    let begun = free_begins g.R.Recorded.answers c.args.self.now c.args.left c.args.place.now c.args.scope.now c.args.dag.now c.args.plan.now c.args.k c.args.i c.args.task.now c.requires.turn c.requires.free c.in_ok-at.at c.in_ok-at.ensures c.begins.result c.begins.ensures c.if-not-begins.false in
     (omega arith, (within, (c.requires.resumes, (c.requires.plan, (c.requires.turn, (c.requires.board, (begun, (c.requires.place, (c.in_ok-at.ensures, (c.requires.shallow, c.requires.were))))))))))
 
 pub freed-returns-then-not-begins : goal.freed-returns-then-not-begins
 freed-returns-then-not-begins g t c =
-    let m = c.args.self.now.walk.manifest.now in
-    let A = g.R.Recorded.answers c.args.self.now.walk.recorded.now in
-    let scopes = c.args.self.now.walk.globals.now in
-    let called = calls m A scopes c.args.left in
-    task_ready A called (alike m A scopes c.args.left) c.args.place.now c.args.scope.now c.args.dag.now c.args.plan.now c.args.k c.args.i c.args.task.now c.requires.turn c.in_ok-at.at c.in_ok-at.ensures c.requires.free c.begins.result c.begins.ensures c.args.board.now c.set_ready.new.self c.args.room.now c.if-not-begins.true c.requires.board c.set_ready.ensures
+    free_waits g.R.Recorded.answers c.args.self.now c.args.left c.args.place.now c.args.scope.now c.args.dag.now c.args.plan.now c.args.k c.args.i c.args.task.now c.requires.turn c.requires.free c.in_ok-at.at c.in_ok-at.ensures c.begins.result c.begins.ensures
+    c.args.board.now c.set_ready.new.self c.args.room.now c.if-not-begins.true c.requires.board c.set_ready.ensures
 
 pub freed-returns-in_err-made : goal.freed-returns-in_err-made
 freed-returns-in_err-made g t c =
-    let m = c.args.self.now.walk.manifest.now in
-    let A = g.R.Recorded.answers c.args.self.now.walk.recorded.now in
-    let scopes = c.args.self.now.walk.globals.now in
-    let called = calls m A scopes c.args.left in
-    let seen = seen_by A called c.args.place.now c.args.scope.now c.args.dag.now c.args.task.now in
-    let inner = seen ++ c.args.scope.now in
-    let here = ap (λ (p : Place). called (codes "tasks.") p inner c.args.task.now.call) (sym c.in_ok-at.ensures) in
-    by_err (λ r. GivesTask c.args.room.now c.begun.new.room r (IsBoard A called c.args.place.now c.args.scope.now c.args.dag.now (take (suc c.args.k) c.args.plan.now.order) c.args.board.now) (stood_count (stands_at A called c.args.place.now c.args.scope.now c.args.dag.now c.args.i))) c.from_residual-in_err-made.result c.in_err-made.field-0.0 c.from_residual-in_err-made.ensures.1
-    (task_fails A called (alike m A scopes c.args.left) c.args.place.now c.args.scope.now c.args.dag.now c.args.plan.now c.args.k c.args.i c.args.task.now c.requires.turn c.in_ok-at.at c.in_ok-at.ensures c.requires.free c.begins.result c.begins.ensures c.if-not-begins.false inner (λ tag. refl) c.args.board.now c.args.room.now c.begun.new.room c.in_err-made.field-0.0
-    (gives_as c.args.room.now c.begun.new.room (Err c.in_err-made.field-0.0) (called (codes "tasks.") (task_place c.args.place.now c.args.i c.args.task.now) inner c.args.task.now.call) (called (codes "tasks.") c.in_ok-at.at inner c.args.task.now.call) here c.in_err-made.ensures))
+    free_fails g.R.Recorded.answers c.args.self.now c.args.left c.args.place.now c.args.scope.now c.args.dag.now c.args.plan.now c.args.k c.args.i c.args.task.now c.requires.turn c.requires.free c.in_ok-at.at c.in_ok-at.ensures c.begins.result c.begins.ensures c.if-not-begins.false
+    c.args.board.now c.args.room.now c.begun.new.room c.from_residual-in_err-made.result c.in_err-made.field-0.0 c.from_residual-in_err-made.ensures.1 c.in_err-made.ensures
 
 pub freed-returns : goal.freed-returns
 freed-returns g t c =
-    let m = c.args.self.now.walk.manifest.now in
-    let A = g.R.Recorded.answers c.args.self.now.walk.recorded.now in
-    let scopes = c.args.self.now.walk.globals.now in
-    let called = calls m A scopes c.args.left in
-    let seen = seen_by A called c.args.place.now c.args.scope.now c.args.dag.now c.args.task.now in
-    let inner = seen ++ c.args.scope.now in
-    let here = ap (λ (p : Place). called (codes "tasks.") p inner c.args.task.now.call) (sym c.in_ok-at.ensures) in
-    task_begun A called (alike m A scopes c.args.left) c.args.place.now c.args.scope.now c.args.dag.now c.args.plan.now c.args.k c.args.i c.args.task.now c.requires.turn c.in_ok-at.at c.in_ok-at.ensures c.requires.free c.begins.result c.begins.ensures c.if-not-begins.false inner (λ tag. refl) c.args.board.now c.begin-2.new.self c.in_ok-made.made c.args.room.now c.begun.new.room c.requires.board
-    (gives_as c.args.room.now c.begun.new.room (Ok c.in_ok-made.made) (called (codes "tasks.") (task_place c.args.place.now c.args.i c.args.task.now) inner c.args.task.now.call) (called (codes "tasks.") c.in_ok-at.at inner c.args.task.now.call) here c.in_ok-made.ensures)
-    c.in_ok-begin-2.ensures
+    free_begun g.R.Recorded.answers c.args.self.now c.args.left c.args.place.now c.args.scope.now c.args.dag.now c.args.plan.now c.args.k c.args.i c.args.task.now c.requires.turn c.requires.free c.in_ok-at.at c.in_ok-at.ensures c.begins.result c.begins.ensures c.if-not-begins.false
+    c.args.board.now c.begin-2.new.self c.in_ok-made.made c.args.room.now c.begun.new.room c.requires.board c.in_ok-made.ensures c.in_ok-begin-2.ensures
 
 pub begun-inside-requires : goal.begun-inside-requires
 begun-inside-requires g t c κs within =
@@ -773,31 +685,19 @@ begun-inside-requires g t c κs within =
 
 pub begun-returns-in_err-state : goal.begun-returns-in_err-state
 begun-returns-in_err-state g t c =
-    let m = c.args.self.now.walk.manifest.now in
     let A = g.R.Recorded.answers c.args.self.now.walk.recorded.now in
-    let B = g.R.Recorded.answers c.args.self.now.before.now in
-    let scopes = c.args.self.now.walk.globals.now in
-    let called = calls m A scopes c.args.left in
-    let seen = seen_by A called c.args.place.now c.args.scope.now c.args.dag.now c.args.task.now in
-    let whole = called (codes "tasks.") (task_place c.args.place.now c.args.i c.args.task.now) (seen ++ c.args.scope.now) c.args.task.now.call in
+    let called = calls_now g.R.Recorded.answers c.args.self.now c.args.left in
     let values = c.in_ok-inner.ensures A called c.args.place.now c.args.scope.now c.args.k c.args.task.now c.requires.board c.requires.turn in
-    by_err (λ r. Gives c.args.room.now c.inside.new.room r whole) c.from_residual-in_err-state.result c.in_err-state.field-0.0 c.from_residual-in_err-state.ensures.1
-    (gives_as c.args.room.now c.inside.new.room (Err c.in_err-state.field-0.0) (called (codes "tasks.") c.args.at c.in_ok-inner.inner c.args.task.now.call) whole
-    (inner_as m A B scopes c.args.left c.args.place.now c.args.scope.now c.args.dag.now c.args.plan.now c.requires.plan c.args.j c.args.were.now c.requires.were c.args.rest.now c.requires.resumes.same c.args.i c.args.task.now c.requires.turn.task c.args.at c.requires.at c.in_ok-inner.inner values) c.in_err-state.ensures)
+    inner_fails g.R.Recorded.answers c.args.self.now c.args.left c.args.place.now c.args.scope.now c.args.dag.now c.args.plan.now c.args.k c.args.i c.args.task.now c.requires.turn c.requires.plan c.args.j c.args.were.now c.requires.were c.args.rest.now c.requires.resumes
+    c.args.at c.requires.at c.in_ok-inner.inner values c.args.room.now c.inside.new.room c.from_residual-in_err-state.result c.in_err-state.field-0.0 c.from_residual-in_err-state.ensures.1 c.in_err-state.ensures
 
 pub begun-returns : goal.begun-returns
 begun-returns g t c =
-    let m = c.args.self.now.walk.manifest.now in
     let A = g.R.Recorded.answers c.args.self.now.walk.recorded.now in
-    let B = g.R.Recorded.answers c.args.self.now.before.now in
-    let scopes = c.args.self.now.walk.globals.now in
-    let called = calls m A scopes c.args.left in
-    let seen = seen_by A called c.args.place.now c.args.scope.now c.args.dag.now c.args.task.now in
-    let whole = called (codes "tasks.") (task_place c.args.place.now c.args.i c.args.task.now) (seen ++ c.args.scope.now) c.args.task.now.call in
+    let called = calls_now g.R.Recorded.answers c.args.self.now c.args.left in
     let values = c.in_ok-inner.ensures A called c.args.place.now c.args.scope.now c.args.k c.args.task.now c.requires.board c.requires.turn in
-    let done = gives_as c.args.room.now c.inside.new.room (Ok c.in_ok-state.state) (called (codes "tasks.") c.args.at c.in_ok-inner.inner c.args.task.now.call) whole
-    (inner_as m A B scopes c.args.left c.args.place.now c.args.scope.now c.args.dag.now c.args.plan.now c.requires.plan c.args.j c.args.were.now c.requires.were c.args.rest.now c.requires.resumes.same c.args.i c.args.task.now c.requires.turn.task c.args.at c.requires.at c.in_ok-inner.inner values) c.in_ok-state.ensures in
-    (c.in_ok-new.ensures ∙ done.0, done.1)
+    inner_gives g.R.Recorded.answers c.args.self.now c.args.left c.args.place.now c.args.scope.now c.args.dag.now c.args.plan.now c.args.k c.args.i c.args.task.now c.requires.turn c.requires.plan c.args.j c.args.were.now c.requires.were c.args.rest.now c.requires.resumes
+    c.args.at c.requires.at c.in_ok-inner.inner values c.in_ok-state.state c.in_ok-new.field-0 c.args.room.now c.inside.new.room c.in_ok-new.ensures c.in_ok-state.ensures
 
 pub inside-call-requires-2 : goal.inside-call-requires-2
 inside-call-requires-2 g t c κs within =

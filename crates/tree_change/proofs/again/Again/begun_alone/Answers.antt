@@ -31,5 +31,5 @@ returns g c declared was =
     ∙ ap (λ (q : Place). calls m A scopes c.args.left (codes "tasks.") q c.args.scope.now t.call) here in
     let named : Path = record { sels = c.in_ok-copy.field-0 } in
     sym (dag_begins_as m A B (place.sels ++ task_sel j ∷ c.args.rest.now) c.requires.resumes.same scopes c.args.left rounds_settle place c.args.scope.now declared d c.requires.walkable.ranked j c.args.rest.now
-    c.args.old.now z c.in-Some-3.state t named refl was (sym c.in-Some.ensures) (c.if-not-is_alone.ensures refl) (c.in_ok-copy.ensures ∙ ap (λ (q : Place). q.sels) here) begins new (c.if-not-is_unseen.ensures refl)
+    c.args.old.now z c.in-Some-3.state t named refl was (sym c.in-Some.ensures) (c.if-not-is_alone.ensures refl) (c.in_ok-copy.ensures ∙ ap (λ (q : Place). q.sels) here) begins new (c.if-not-is_unseen.ensures.0 refl)
     (sym c.in_ok-state.ensures ∙ c.in-Some-3.is) (sym c.all_finished.ensures ∙ c.if-all_finished.false))

@@ -97,7 +97,7 @@ dag-returns g t c B changed g' left place scope declared same way is =
     let z = c.in-Some-2.new in
     let here = begins changed place.sels c.in-Some.first (task_sel j) c.args.rest.now others way c.in-Some.ensures c.in-Task.is in
     let off : one.own.finished ≡ false = sym c.is_finished.ensures ∙ c.if-is_finished.false in
-    let unseen : IsUnseen d task z = c.if-not-is_unseen.ensures refl in
+    let unseen : IsUnseen d task z = c.if-not-is_unseen.ensures.0 refl in
     let goes_on = sym (ap (λ (b : Made). all_finished (row_in b.parts)) c.in_ok-state.ensures) ∙ sym c.all_finished.ensures ∙ c.if-all_finished.false in (
       c.in_ok-state.ensures
           ∙ sym (dag_runs_on m A B changed same g' left rounds_settle place scope declared d c.requires.ranked at j others old one z task here is (sym c.in-Some-item_at.ensures)
