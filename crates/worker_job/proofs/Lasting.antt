@@ -156,7 +156,7 @@ same_front : {A : Type 0} (xs ys zs ws : List A) → xs ++ zs ≡ ys ++ ws → l
 same_front xs ys zs ws same long =
     sym (take-append_seam xs zs) ∙ ap₂ take long same ∙ take-append_seam ys ws
 
-one_more : {A : Type 0} (J K before more : List A) (x : A) → K ≡ before ++ x ∷ [] → K ≡ J ++ more → length K ≡ length J + 1 → before ≡ J
+pub one_more : {A : Type 0} (J K before more : List A) (x : A) → K ≡ before ++ x ∷ [] → K ≡ J ++ more → length K ≡ length J + 1 → before ≡ J
 one_more J K before more x last grows long =
     let long_last : length K ≡ length before + 1 = ap length last ∙ length-append before (x ∷ []) in
     same_front before J (x ∷ []) more (sym last ∙ grows) (omega (arith, long, long_last))

@@ -10,3 +10,4 @@ mod Running
 mod Marked
 mod Saving
 mod Lasting
+mod Filing

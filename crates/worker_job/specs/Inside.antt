@@ -1,4 +1,5 @@
 -- What speaks only of private code.
+pub mod Filing
 pub mod Marks
 pub mod Saving
 use Rattle.std.specs.Prelude.{◌≡◌, ℕ, true, List, map, reverse, Option, Some, None, is_some, option_map, option_and_then}
@@ -15,6 +16,7 @@ use Rattle.next_step.specs.Replies.{seen}
 use Rattle.worker_job.specs.declared.job.SeenPod.{SeenPod}
 use Rattle.worker_job.specs.declared.job.Job.TheInside.{Inside}
 use Rattle.worker_job.specs.Jobs.{OneJob}
+use Rattle.worker_job.specs.Inside.Filing.{FiledFits}
 use Rattle.worker_job.specs.Inside.Marks.{MarksFit}
 use Rattle.worker_job.specs.Inside.Saving.{MarkFits}
 
@@ -74,3 +76,4 @@ pub record IsHeld (a : Inside) : Type 0 where
   pub kept : IsKept a.workflow a.flow a.book a.saves
   pub marked : MarksFit (looks_of a) (flow_of a) a.marks
   pub saved : MarkFits a.saved.path a.workflow (option_and_then flow_seen a.flow) (option_and_then saves_seen a.saves)
+  pub filed : FiledFits a.filed.all a.workflow (option_and_then flow_seen a.flow) (option_and_then book_seen a.book)

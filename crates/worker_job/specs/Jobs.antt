@@ -1,14 +1,17 @@
 -- A worker's job on one workflow, and what its snapshots show.
-use Rattle.std.specs.Prelude.{◌≡◌, ◌++◌, Bool, true, false, List, Some, Option}
+use Rattle.std.specs.Prelude.{◌≡◌, ◌++◌, Bool, true, false, List, Some, None, Option}
 use Rattle.tree_types.specs.declared.entry.Key.{Key}
 use Rattle.tree_types.specs.declared.entry.Key.TheVariants.{Workflow, Pod, Locks, Caches}
+use Rattle.tree_types.specs.declared.entry.HolderKey.{HolderKey}
+use Rattle.books.specs.declared.Request.{Request}
+use Rattle.books.specs.Books.{request_of}
 use Rattle.saves.specs.declared.Saved.{Saved}
 use Rattle.object_store.specs.declared.snapshot.Snapshot.{Snapshot}
 use Rattle.law.specs.Documents.{Text}
 use Rattle.meaning.specs.Answers.{Facts}
 use Rattle.law.specs.Contents.{Flow, Book, Content, OfWorkflow, OfLocks, OfCaches, flow_in}
-use Rattle.law.specs.Due.{Matter, record_fact, save}
-use Rattle.wf_object.specs.Kept.{caches_in}
+use Rattle.law.specs.Due.{Matter, record_fact, save, release}
+use Rattle.wf_object.specs.Kept.{locks_in, caches_in}
 use Rattle.next_step.specs.Views.{Seen, Views}
 use Rattle.next_step.specs.Replies.{Job, Ending, goes_on, ended, seen}
 
@@ -62,6 +65,22 @@ SavesGoOn v c =
 abbrev pub SaveGoesOn : Matter → Views → Content → Type 0
 SaveGoesOn (save cache entry k outputs) v c = SavesGoOn v c
 SaveGoesOn _ v c = Unit {0}
+
+-- ---- what a release leaves
+
+-- no key loses its request
+abbrev pub KeepsRequests : List Request → List Request → Type 0
+KeepsRequests rs ts = (k : HolderKey) → request_of ts k ≡ None → request_of rs k ≡ None
+
+-- the book goes on from the one that was read
+abbrev pub BookGoesOn : Views → Content → Type 0
+BookGoesOn v c =
+    (s : Seen Book) (b : Book) → v.book ≡ Some s → locks_in (Some c) ≡ Some b → KeepsRequests s.content.requests b.requests
+
+-- where a lock was released
+abbrev pub ReleaseGoesOn : Matter → Views → Content → Type 0
+ReleaseGoesOn (release lock k) v c = BookGoesOn v c
+ReleaseGoesOn _ v c = Unit {0}
 
 -- ---- the object of a view
 

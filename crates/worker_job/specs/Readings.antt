@@ -22,6 +22,7 @@ use Rattle.next_step.specs.Replies.{seen}
 use Rattle.worker_job.specs.declared.matter.Next.{Next as Act}
 use Rattle.worker_job.specs.declared.reading.Reading.{Reading}
 use Rattle.worker_job.specs.Told.{next_told}
+use Rattle.worker_job.specs.Inside.Filing.{FiledOf}
 use Rattle.worker_job.specs.Inside.Saving.{MarkFits}
 
 -- a command that resumes nodes of this workflow
@@ -53,6 +54,10 @@ module _ (r : Reading) where
   -- what is known to be saved is saved
   abbrev pub IsSaveMarked : Type 0
   IsSaveMarked = MarkFits r.saved.now.path workflow (Some flow) views.saves
+
+  -- where it is known that each lock is filed, it is
+  abbrev pub IsFiledMarked : Type 0
+  IsFiledMarked = FiledOf r.filed.now.all workflow r.object.now views.book
 
   -- ---- questions
 

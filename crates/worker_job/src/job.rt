@@ -1,18 +1,21 @@
 //! What was read and noted in a job.
 
-ghost use Rattle.std.specs.Prelude.{◌≡◌, ◌∷◌, None, Some, true, not, List as Seq, map, filter, bytes_eq, is_some, IfOk, OnOk, MatchOption, option_copied, option_map, option_and_then};
+ghost use Rattle.std.specs.Prelude.{◌≡◌, ◌∷◌, None, Some, true, not, List as Seq, map, filter, bytes_eq, is_some, IfOk, OnOk, MatchOption, option_copied, option_map, option_and_then, IsTrue};
 ghost use Rattle.std.specs.List.{list_any};
 ghost use Rattle.tree_types.specs.declared.entry.Key.TheVariants as of_key;
 ghost use Rattle.law.specs.Contents.{Flow, flow_in};
 ghost use Rattle.law.specs.Justified.{wants_of};
+ghost use Rattle.pod_laws.specs.NewPods.{NoneNew};
+ghost use Rattle.pod_laws.specs.NewLocks.{locks};
 ghost use Rattle.saves.specs.declared.Saved.{Saved};
 ghost use Rattle.wf_object.specs.Documents.{law_of};
 ghost use Rattle.wf_object.specs.Kept.{law_book, locks_in, caches_in};
 ghost use Rattle.next_step.specs.Views.{Seen, nothing, is_look, look_at, pod_seen};
 ghost use Rattle.next_step.specs.Next.{worker_next, get, act};
 ghost use Rattle.next_step.specs.Replies.{after, taken, with_look, seen, found, accepted, no_object, exists};
-ghost use Rattle.worker_job.specs.Jobs.{Leaves, IsRead, HasMore, GoesOn, FactGoesOn, HasMoreSaves, SavesGoOn, SaveGoesOn, ShowsFlow, ShowsBook, ShowsSaves};
+ghost use Rattle.worker_job.specs.Jobs.{Leaves, IsRead, HasMore, GoesOn, FactGoesOn, HasMoreSaves, SavesGoOn, SaveGoesOn, BookGoesOn, ReleaseGoesOn, ShowsFlow, ShowsBook, ShowsSaves};
 ghost use Rattle.worker_job.specs.Told.{matter_told, next_told, key_of};
+ghost use Rattle.worker_job.specs.Inside.Filing.{FiledOf, FiledFits};
 ghost use Rattle.worker_job.specs.Inside.Marks.{IsMarked, MarksFit};
 ghost use Rattle.worker_job.specs.Inside.Saving.{MarkFits, NoneLeft};
 ghost use Rattle.worker_job.specs.Inside.{look_told, pod_told, kept_saves, flow_seen, book_seen, saves_seen};
@@ -21,6 +24,7 @@ use crate::marks::{Marks, Pods};
 use crate::matter::{Matter, Next};
 use crate::reading::Reading;
 use crate::save_mark::{SaveMark, ToSave};
+use crate::to_file::{FileMark, ToFile};
 use base_types::{List, Memory, Names, Text, TryCopy};
 use looks::{Look, Looks};
 use memo_cache::Cache;
@@ -50,6 +54,7 @@ pub struct Job {
     looks: Looks<SeenPod>,
     marks: Marks,
     saved: SaveMark,
+    filed: FileMark,
     // The names of the resubmissions that were tried, the last one last.
     tried: Names,
 }
@@ -65,6 +70,7 @@ impl Drop for Job {
             looks: _,
             marks: _,
             saved: _,
+            filed: _,
             tried: _,
         } = self;
     }
@@ -98,6 +104,7 @@ impl Job {
             looks: Looks::new(alloc),
             marks: Marks::none(),
             saved: SaveMark::none(),
+            filed: FileMark { all: false },
             tried: List::new(alloc),
         }
     }
@@ -128,6 +135,7 @@ impl Job {
                     tick: snapshot.tick,
                     marks: &self.marks,
                     saved: &self.saved,
+                    filed: &self.filed,
                 };
                 reading.next()
             }
@@ -234,7 +242,10 @@ impl Job {
         match &snapshot.key {
             Key::Workflow(_) => Ok(self.keep_flow(snapshot)),
             Key::Pod(_, name) => self.keep_pod(name, &snapshot),
-            Key::Locks => Ok(self.keep_book(snapshot)),
+            Key::Locks => {
+                let filed = self.knows_all(&snapshot);
+                Ok(self.keep_book(snapshot, filed))
+            }
             Key::Caches => Ok(self.keep_saves(snapshot)),
         }
     }
@@ -259,6 +270,7 @@ impl Job {
         requires key { snapshot.key ≡ key_of self.old.workflow (matter_told matter.now) }
         requires goes_on { FactGoesOn (matter_told matter.now) self.old.views snapshot.content }
         requires saved { SaveGoesOn (matter_told matter.now) self.old.views snapshot.content }
+        requires released { ReleaseGoesOn (matter_told matter.now) self.old.views snapshot.content }
         ensures after { IfOk result (λ on. Leaves on
             (after self.old.views (act (matter_told matter.now))
             (accepted (seen snapshot.version snapshot.content snapshot.tick))) self.new.views) }
@@ -267,6 +279,12 @@ impl Job {
         match matter {
             Matter::RecordFact(fact) => self.go_on(fact, snapshot),
             Matter::Save(_, _, writer, _) => self.save_on(&writer.path, snapshot),
+            // One of many filings in a row: what is left is looked for at the next fact.
+            Matter::File(_, _, _) => Ok(self.keep_book(snapshot, false)),
+            Matter::Release(_, _) => {
+                let filed = self.keeps_filed(&snapshot);
+                Ok(self.keep_book(snapshot, filed))
+            }
             Matter::Submit(resubmission) => {
                 self.note_try(&resubmission.name)?;
                 Ok(true)
@@ -303,12 +321,12 @@ impl Job {
             self.new.views }
         ensures workflow { self.new.workflow ≡ self.old.workflow }
     {
-        if snapshot.content.workflow().is_some() {
-            self.set_flow(snapshot, Marks::none());
-            true
-        } else {
-            false
-        }
+        let Some(object) = snapshot.content.workflow() else {
+            return false;
+        };
+        let filed = self.knows_of(object);
+        self.set_flow(snapshot, Marks::none(), filed);
+        true
     }
 
     // A fact was recorded, and the workflow is this one now.
@@ -324,8 +342,82 @@ impl Job {
             return Ok(false);
         };
         let marks = self.marks_at(fact, object)?;
-        self.set_flow(snapshot, marks);
+        let filed = self.filed_at(object);
+        self.set_flow(snapshot, marks, filed);
         Ok(true)
+    }
+
+    // Whether each lock is known to be filed, where the workflow becomes this one by a fact.
+    fn filed_at(&self, object: &WfObject) -> bool
+        requires { (s : Seen Flow) → self.now.views.flow ≡ Some s → HasMore s.content object.now }
+        ensures { FiledOf result self.now.workflow object.now self.now.views.book }
+    {
+        if self.is_still_filed(object) {
+            return true;
+        }
+        self.knows_of(object)
+    }
+
+    // Whether the book that was read knows each lock that a workflow asks for.
+    fn knows_of(&self, object: &WfObject) -> bool
+        ensures { FiledOf result self.now.workflow object.now self.now.views.book }
+    {
+        match self.locks() {
+            None => false,
+            Some(book) => {
+                let to_file = ToFile {
+                    workflow: &self.workflow,
+                    object,
+                    book,
+                };
+                to_file.is_done()
+            }
+        }
+    }
+
+    // Whether a book knows each lock that the workflow asks for that was read.
+    fn knows_all(&self, snapshot: &Snapshot<WfContent>) -> bool
+        ensures { FiledFits result self.now.workflow self.now.views.flow (book_seen snapshot.now) }
+    {
+        let (Some(flow), Some(book)) = (self.flow(), snapshot.content.locks()) else {
+            return false;
+        };
+        match flow.content.workflow() {
+            None => false,
+            Some(object) => {
+                let to_file = ToFile {
+                    workflow: &self.workflow,
+                    object,
+                    book,
+                };
+                to_file.is_done()
+            }
+        }
+    }
+
+    // Whether it was known that each lock is filed, and the book goes on to one of a release.
+    fn keeps_filed(&self, later: &Snapshot<WfContent>) -> bool
+        requires { BookGoesOn self.now.views later.now.content }
+        ensures { FiledFits result self.now.workflow self.now.views.flow (book_seen later.now) }
+    {
+        match self.book() {
+            None => false,
+            Some(_) => self.filed.all,
+        }
+    }
+
+    // Whether it was known that each lock is filed, and the fact by which the workflow becomes this one adds none.
+    fn is_still_filed(&self, object: &WfObject) -> bool
+        requires { (s : Seen Flow) → self.now.views.flow ≡ Some s → HasMore s.content object.now }
+        ensures { FiledOf result self.now.workflow object.now self.now.views.book }
+    {
+        let Some(flow) = self.flow() else {
+            return false;
+        };
+        let Some(before) = flow.content.workflow() else {
+            return false;
+        };
+        self.filed.all && adds_no_lock(before, object)
     }
 
     // The marks, where the workflow becomes this one by a fact.
@@ -346,15 +438,16 @@ impl Job {
         }
     }
 
-    fn keep_book(&mut self, snapshot: Snapshot<WfContent>) -> bool
-        requires { snapshot.key ≡ of_key.Locks }
+    fn keep_book(&mut self, snapshot: Snapshot<WfContent>, filed: bool) -> bool
+        requires key { snapshot.key ≡ of_key.Locks }
+        requires filed { FiledFits filed self.old.workflow self.old.views.flow (book_seen snapshot) }
         ensures after { Leaves result
             (taken self.old.views snapshot.key snapshot.version snapshot.tick snapshot.content)
             self.new.views }
         ensures workflow { self.new.workflow ≡ self.old.workflow }
     {
         if snapshot.content.locks().is_some() {
-            self.set_book(snapshot);
+            self.set_book(snapshot, filed);
             true
         } else {
             false
@@ -439,10 +532,11 @@ impl Job {
     // ---- one change of what is kept
 
     // The saves are to be read after the workflow.
-    fn set_flow(&mut self, snapshot: Snapshot<WfContent>, marks: Marks)
+    fn set_flow(&mut self, snapshot: Snapshot<WfContent>, marks: Marks, filed: bool)
         requires key { snapshot.key ≡ of_key.Workflow self.old.workflow }
         requires kind { is_some (flow_in (Some snapshot.content)) ≡ true }
         requires marked { MarksFit self.old.views.pods (flow_in (Some snapshot.content)) marks }
+        requires filed { FiledFits filed self.old.workflow (flow_seen snapshot) self.old.views.book }
         ensures views { self.new.views
             ≡ record self.old.views { flow = flow_seen snapshot; saves = None } }
         ensures workflow { self.new.workflow ≡ self.old.workflow }
@@ -450,16 +544,19 @@ impl Job {
         self.flow = Some(snapshot);
         self.saves = None;
         self.saved = SaveMark::none();
+        self.filed = FileMark { all: filed };
         self.marks = marks_behind(&self.flow, &self.looks, marks);
     }
 
-    fn set_book(&mut self, snapshot: Snapshot<WfContent>)
+    fn set_book(&mut self, snapshot: Snapshot<WfContent>, filed: bool)
         requires key { snapshot.key ≡ of_key.Locks }
         requires kind { is_some (locks_in (Some snapshot.content)) ≡ true }
+        requires filed { FiledFits filed self.old.workflow self.old.views.flow (book_seen snapshot) }
         ensures views { self.new.views ≡ record self.old.views { book = book_seen snapshot } }
         ensures workflow { self.new.workflow ≡ self.old.workflow }
     {
         self.book = Some(snapshot);
+        self.filed = FileMark { all: filed };
     }
 
     fn set_saves(&mut self, snapshot: Snapshot<WfContent>, saved: SaveMark)
@@ -522,6 +619,15 @@ fn marks_behind(flow: &Option<Snapshot<WfContent>>, looks: &Looks<SeenPod>, mark
         None => marks,
         Some(object) => Pods { looks, object }.advanced(marks),
     }
+}
+
+// Whether the second is the first with one fact more, by which it asks for no lock that the first does not ask for.
+fn adds_no_lock(before: &WfObject, object: &WfObject) -> bool
+    requires { HasMore before.now object.now }
+    ensures { IsTrue result → NoneNew (locks object.now.manifest object.now.journal) (locks before.now.manifest before.now.journal) }
+{
+    let more = object.journal().len() - before.journal().len();
+    more == 1 && object.state().adds_no_lock()
 }
 
 fn is_among(name: &Text, names: &[Text]) -> bool

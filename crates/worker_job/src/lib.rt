@@ -9,6 +9,7 @@ mod queries;
 mod reading;
 mod save_mark;
 mod steps;
+mod to_file;
 
 pub use job::Job;
 pub use matter::{Matter, Next, Resubmission};

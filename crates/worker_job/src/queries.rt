@@ -151,11 +151,15 @@ impl<'a> Reading<'a> {
 
     // The first lock that the book does not know.
     pub(crate) fn first_unknown(&self) -> Option<(&Path, &LockId, &Text)>
+        requires filed { reads.IsFiledMarked self.now }
         ensures { option_map
             (λ u. file u.1.now (justified.key (reads.workflow self.now) u.0.now)
             (justified.rank self.now.object.now.manifest u.0.now.sels u.2.now)) result
             ≡ reads.asked self.now (reads.filing self.now) }
     {
+        if self.filed.all {
+            return None;
+        }
         let test = Unknown { reading: *self };
         match self.object.state().find_want(WantKind::Lock, &test) {
             None => None,

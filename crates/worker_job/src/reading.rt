@@ -19,6 +19,7 @@ use crate::job::Job;
 use crate::marks::{Marks, Pods};
 use crate::matter::Resubmission;
 use crate::save_mark::SaveMark;
+use crate::to_file::FileMark;
 use base_types::{Memory, Shared, Text, TryCopy};
 use books::LockState;
 use item_reader::Command;
@@ -42,6 +43,7 @@ pub(crate) struct Reading<'a> {
     pub(crate) tick: u64,
     pub(crate) marks: &'a Marks,
     pub(crate) saved: &'a SaveMark,
+    pub(crate) filed: &'a FileMark,
 }
 
 // Whether the manifest or one of its templates has a lock.

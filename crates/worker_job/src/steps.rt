@@ -41,6 +41,7 @@ impl<'a> Reading<'a> {
     pub(crate) fn next(&self) -> Result<Next, Memory>
         requires marked { IsMarked self.now.job.now.views.pods self.now.object.now self.now.marks.now }
         requires saved { reads.IsSaveMarked self.now }
+        requires filed { reads.IsFiledMarked self.now }
         ensures { IfOk result (λ n. next_told n ≡ next.first_step (reads.steps self.now)) }
     {
         if let Some(next) = self.read_book() {
@@ -59,6 +60,7 @@ impl<'a> Reading<'a> {
     fn next_answer(&self) -> Result<Next, Memory>
         requires marked { IsMarked self.now.job.now.views.pods self.now.object.now self.now.marks.now }
         requires saved { reads.IsSaveMarked self.now }
+        requires filed { reads.IsFiledMarked self.now }
         ensures { IfOk result (λ n. next_told n ≡ next.first_step (reads.answering_steps self.now)) }
     {
         if let Some(next) = self.settle()? {
@@ -179,6 +181,7 @@ impl<'a> Reading<'a> {
     }
 
     fn file_one(&self) -> Result<Option<Next>, Memory>
+        requires filed { reads.IsFiledMarked self.now }
         ensures { IfOk result (λ step. step_told step ≡ reads.file_one self.now) }
     {
         match self.first_unknown() {

@@ -9,5 +9,6 @@ pub invariant_of-self : goal.invariant_of-self
 invariant_of-self c = record {
   kept = search rules;
   marked = c.self.invariant.marked;
+  filed = c.self.invariant.filed;
   saved = subst (λ (j : OneJob). MarkFits c.args.saved.path j.workflow j.views.flow (saves_seen c.args.snapshot)) (sym c.self.view_is) c.requires.saved;
 }

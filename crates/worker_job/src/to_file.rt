@@ -1,0 +1,57 @@
+//! Whether the book knows each lock that a workflow asks for, so that a step looks up none of them.
+
+ghost use Rattle.std.specs.Prelude.{◌≡◌, IsTrue};
+ghost use Rattle.law.specs.Justified.{wants_of};
+ghost use Rattle.worker_job.specs.Inside.Filing as filing;
+ghost use Rattle.worker_job.specs.Inside.Filing.{NoneUnknown};
+
+use base_types::Text;
+use sync_locks::LockBook;
+use tree_incr::{WantKind, WantTest};
+use tree_types::Want;
+use wf_object::WfObject;
+
+// Whether each lock that a workflow asks for is known to be filed.
+#[derive(Clone, Copy)]
+pub(crate) struct FileMark {
+    pub(crate) all: bool,
+}
+
+// The locks that a workflow asks for, and the book.
+#[derive(Clone, Copy)]
+pub(crate) struct ToFile<'a> {
+    pub(crate) workflow: &'a Text,
+    pub(crate) object: &'a WfObject,
+    pub(crate) book: &'a LockBook,
+}
+
+impl ToFile<'_> {
+    // Whether a want is for a lock whose request the book does not know.
+    fn is_unknown(&self, want: &Want) -> bool
+        ensures { result ≡ filing.is_unknown self.now.workflow.now self.now.book.now.requests want.now }
+    {
+        let Want::Lock(path, _) = want else {
+            return false;
+        };
+        self.book.standing(self.workflow, path).is_none()
+    }
+
+    // Whether there is none.
+    pub(crate) fn is_done(&self) -> bool
+        ensures { IsTrue result →
+            NoneUnknown self.now.workflow.now self.now.book.now.requests (wants_of self.now.object.now) }
+    {
+        self.object
+            .state()
+            .find_want(WantKind::Lock, self)
+            .is_none()
+    }
+}
+
+impl WantTest for ToFile<'_> {
+    ghost accepts = { λ test want. filing.is_unknown test.workflow.now test.book.now.requests want };
+
+    fn accepts(&self, want: &Want) -> bool {
+        self.is_unknown(want)
+    }
+}
