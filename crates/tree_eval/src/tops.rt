@@ -1,7 +1,7 @@
 //! What the entrypoint makes, and the exit handler.
 
-ghost use Rattle.std.specs.Prelude.{◌≡◌, ◌≤◌, ◌^◌, ◌∷◌, IfOk, IfSome, OnOk, MatchOption, option_copied, option_map, length};
-ghost use Rattle.std.specs.List.{find};
+ghost use Rattle.std.specs.Prelude.{◌≡◌, ◌≤◌, ◌^◌, ◌∷◌, ◌++◌, IfOk, IfSome, OnOk, MatchOption, option_copied, option_map, length};
+ghost use Rattle.std.specs.List.{find, filter};
 ghost use Rattle.meaning.specs.Trees.{nodes_in, wants_in, beginnings_in};
 ghost use Rattle.tree_state.specs.Asking.{is_of, first};
 ghost use Rattle.tree_types.specs.declared.path.Sel.TheVariants.{Main};
@@ -27,7 +27,7 @@ use tree_change::made_again;
 use tree_state::{
     Clue, NodeTest, Room, State, Told, TreeRefused, WantKind, WantTest, counts_nodes, sooner,
 };
-use tree_types::{Node, Path, Phase, Sel, Want};
+use tree_types::{Node, Path, Phase, Sel, Want, Wants};
 use tree_walk::{Positions, positions_of, top_state};
 use wf_manifest::Manifest;
 
@@ -255,6 +255,16 @@ impl Tops {
         }
     }
 
+    /// Adds all that is asked for of a kind, in tree order. What asks for none of the kind is not looked through.
+    pub fn add_wants(&self, kind: WantKind, wants: &mut Wants) -> Result<(), Memory>
+        ensures { OnOk result
+            (wants.new ≡ wants.old ++ filter (is_of kind) (wants_in (inside.lines_of self.now))) }
+    {
+        self.main.add_wants(kind, wants)?;
+        add_of_exit(&self.exit, kind, wants)?;
+        Ok(())
+    }
+
     /// The first pod that is asked for and passes a test, in tree order, where none of so many from the first does; and how many
     /// from the first are known not to.
     pub fn find_pod_behind<T: WantTest>(&self, known: usize, test: &T) -> Option<(usize, &Want)>
@@ -339,5 +349,15 @@ fn tell_exit(exit: &Option<State>, told: &mut Told) -> Result<(), Memory>
     match exit {
         None => Ok(()),
         Some(exit) => exit.tell(told),
+    }
+}
+
+fn add_of_exit(exit: &Option<State>, kind: WantKind, wants: &mut Wants) -> Result<(), Memory>
+    ensures { OnOk result
+        (wants.new ≡ wants.old ++ filter (is_of kind) (wants_in (trees.exit_lines exit.now))) }
+{
+    match exit {
+        None => Ok(()),
+        Some(exit) => exit.add_wants(kind, wants),
     }
 }

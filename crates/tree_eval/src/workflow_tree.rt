@@ -1,7 +1,7 @@
 //! The tree of a workflow, kept as it was made.
 
 ghost use Rattle.std.specs.Prelude.{◌≡◌, ◌≢◌, ◌≤◌, ◌^◌, ◌∷◌, Err, IfOk, IfSome, MatchOption, length, option_copied, option_map};
-ghost use Rattle.std.specs.List.{find};
+ghost use Rattle.std.specs.List.{find, filter};
 ghost use Rattle.meaning.specs.Trees.{nodes_in, wants_in, beginnings_in};
 ghost use Rattle.tree_state.specs.declared.refused.TreeRefused.TheVariants as refused;
 ghost use Rattle.tree_state.specs.Asking.{is_of, first};
@@ -228,6 +228,15 @@ impl WorkflowTree {
             ≡ find (passes kind (T.accepts test.now)) (wants_in (lines_of self.now)) }
     {
         self.tops.find_want(kind, test)
+    }
+
+    /// All that is asked for of a kind, in tree order. What asks for none of the kind is not walked over.
+    pub fn wants_of(&self, alloc: Global, kind: WantKind) -> Result<Wants, Memory>
+        ensures { IfOk result (λ all. all ≡ filter (is_of kind) (wants_in (lines_of self.now))) }
+    {
+        let mut all = Wants::new(alloc);
+        self.tops.add_wants(kind, &mut all)?;
+        Ok(all)
     }
 
     /// The first pod that is asked for and passes a test, in tree order, where none of so many from the first does; and how many

@@ -1,7 +1,7 @@
 //! What stands in a workflow's tree, found without a list of it.
 
-ghost use Rattle.std.specs.Prelude.{◌≡◌, ◌&&◌, IfSome, bytes_eq, option_copied, option_map};
-ghost use Rattle.std.specs.List.{find};
+ghost use Rattle.std.specs.Prelude.{◌≡◌, ◌&&◌, IfOk, IfSome, bytes_eq, option_copied, option_map};
+ghost use Rattle.std.specs.List.{find, filter};
 ghost use Rattle.tree_types.specs.Places.{sels_eq};
 ghost use Rattle.wf_manifest.specs.Valid.{Valid};
 ghost use Rattle.meaning.specs.Trees as trees;
@@ -10,11 +10,11 @@ ghost use Rattle.tree_eval.specs.Pods.{NoneAmong};
 ghost use Rattle.tree_state.specs.Finding.{fits, pods_in, next_tick};
 
 use crate::TreeState;
-use base_types::Text;
+use base_types::{Memory, Text};
 use growth::laws::{one_name, one_path, valid_are_apart};
 use tree_eval::law::lines_are_meant;
 use tree_eval::{Clue, NodeTest, WantKind, WantTest};
-use tree_types::{Node, Sel, Want};
+use tree_types::{Node, Sel, Want, Wants};
 
 impl TreeState {
     /// The first want of a kind, in tree order, that passes a test. What asks for none of the kind is not walked over.
@@ -24,6 +24,15 @@ impl TreeState {
     {
         lines_are_meant();
         self.tree.find_want(kind, test)
+    }
+
+    /// All that is asked for of a kind, in tree order. What asks for none of the kind is not walked over.
+    pub fn wants_of(&self, kind: WantKind) -> Result<Wants, Memory>
+        ensures { IfOk result (λ all. all ≡ filter (is_of kind)
+            (trees.wants self.now.manifest self.now.facts)) }
+    {
+        lines_are_meant();
+        self.tree.wants_of(self.manifest().name.allocator(), kind)
     }
 
     /// The first pod that is asked for and passes a test, in tree order, where none of so many from the first does; and how many

@@ -8,4 +8,5 @@ pub mod Tellings
 mod Found
 pub mod Readings
 mod Chunks
+mod Listings
 mod Begins

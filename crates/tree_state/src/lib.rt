@@ -9,6 +9,7 @@ mod filled;
 mod finding;
 mod kinds;
 mod law;
+mod listing;
 mod pods;
 mod questions;
 mod refused;
