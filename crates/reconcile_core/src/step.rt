@@ -2,7 +2,7 @@
 
 ghost use Rattle.std.specs.Prelude.{◌≡◌, ◌≢◌, Ok, Err, IfOk, if◌then◌else◌};
 ghost use Rattle.next_step.specs.Replies.{after};
-ghost use Rattle.worker_job.specs.Jobs.{IsRead, FactGoesOn, SaveGoesOn, ReleaseGoesOn};
+ghost use Rattle.worker_job.specs.Jobs.{IsRead, FactGoesOn, SaveGoesOn, LocksGoOn};
 ghost use Rattle.reconcile_core.specs.Hearing.{Hears};
 ghost use Rattle.io_edge.specs.Cause.{Rose};
 ghost use Rattle.lawful.specs.Manifests.{HasValidWorkflows};
@@ -116,8 +116,8 @@ fn answered(
         (λ s. FactGoesOn (matter_told matter.now) job.old.views s.content) }
     requires saved { IfOk answer
         (λ s. SaveGoesOn (matter_told matter.now) job.old.views s.content) }
-    requires released { IfOk answer
-        (λ s. ReleaseGoesOn (matter_told matter.now) job.old.views s.content) }
+    requires locks { IfOk answer
+        (λ s. LocksGoOn (matter_told matter.now) job.old.views s.content) }
     ensures told { result ≢ Err faults.Memory → Hears
         (after job.old.views (act (matter_told matter.now)) (change_reply answer)) answer (change_reply answer) result
         job.new.views }

@@ -1,6 +1,6 @@
--- A workflow that asks for no lock that is to be filed goes on to ask for none where no lock is new and no request is lost.
-use Rattle.std.proofs.Common.{◌≡◌, Bool, true, false, true≢false, cond, not, ◌&&◌, List, [], ◌∷◌, ◌++◌, ◌+◌, length, inl, inr, refl, sym, ap, ◌∙◌, subst, Bor, Option, Some, None, option_and_then, option_map}
-use Rattle.std.specs.Prelude.{is_some, is_none, option_copied}
+-- What is left to be filed: nothing goes on to be left where no lock is new, and no more is left where no request is lost.
+use Rattle.std.proofs.Common.{◌≡◌, Bool, true, false, true≢false, cond, not, ◌&&◌, List, [], ◌∷◌, ◌++◌, ◌+◌, length, inl, inr, refl, sym, ap, ◌∙◌, subst, Bor, Option, Some, None, Result, Ok, Err, option_and_then, option_map}
+use Rattle.std.specs.Prelude.{is_some, is_none, option_copied, IfOk}
 use Rattle.std.specs.List.{find, filter}
 use Rattle.tree_types.specs.declared.path.Path.{Path}
 use Rattle.tree_types.specs.declared.path.LockId.{LockId}
@@ -10,12 +10,16 @@ use Rattle.wf_manifest.specs.declared.manifest.Manifest.{Manifest}
 use Rattle.meaning.specs.Answers.{Facts}
 use Rattle.meaning.specs.Trees.{wants}
 use Rattle.growth.specs.Growth.{Among}
+use Rattle.tree_state.specs.declared.kinds.WantKind.{WantKind}
 use Rattle.tree_state.specs.declared.kinds.WantKind.TheVariants as kind
 use Rattle.tree_state.specs.Asking.{is_of}
 use Rattle.books.specs.declared.Request.{Request}
 use Rattle.books.specs.Books.{request_of}
+use Rattle.ahead.specs.Left.{AheadOf, FindsBy}
+use Rattle.ahead.proofs.Laws.{fewer_left, known_ahead, none_known, none_ahead, none_left, finds_among}
 use Rattle.pod_laws.specs.NewPods.{NoneNew}
 use Rattle.pod_laws.specs.NewLocks.{locks as locks_of}
+use Rattle.pod_laws.proofs.OfKind.{want_of, of_kind}
 use Rattle.tree_incr.specs.Workflows.{Workflow}
 use Rattle.tree_incr.specs.NewLocks.{LastAddsNoLock}
 use Rattle.law.specs.Documents.{Text}
@@ -29,39 +33,13 @@ use Rattle.next_step.specs.Views.{Seen}
 use Rattle.next_step.specs.Next as next
 use Rattle.next_step.specs.Replies.{seen}
 use Rattle.worker_job.specs.declared.reading.Reading.{Reading}
-use Rattle.worker_job.specs.Jobs.{OneJob, HasMore, KeepsRequests, BookGoesOn, ShowsFlow, ShowsBook}
+use Rattle.worker_job.specs.Jobs.{OneJob, HasMore, KeepsRequests, ShowsFlow}
 use Rattle.worker_job.specs.Inside.{flow_seen, book_seen}
+use Rattle.worker_job.specs.Inside.Left.{LeftOf, LeftFits}
 use Rattle.worker_job.specs.Readings as reads
-use Rattle.worker_job.specs.Inside.Filing.{is_unknown, NoneUnknown, FiledOf, FiledFits}
-use Rattle.worker_job.proofs.Asked.{asked_found}
+use Rattle.worker_job.specs.Inside.Filing.{is_unknown, to_file, NoneUnknown, FiledOf, FiledFits, FilingOf, FilingFits}
 use Rattle.worker_job.proofs.Lasting.{one_more}
 use Rattle.worker_job.proofs.Passing.{off_at, lacks_by}
-use Rattle.worker_job.proofs.Wanted.{filing_only}
-
--- ---- those of a list that pass a test
-
-module _ (t : Want → Bool) where
-  kept_if : (a x : Want) (xs : List Want) (b : Bool) → (x ≡ a) → b ≡ true → Among a (cond b (x ∷ xs) xs)
-  kept_if a x xs true same e = inl same
-  kept_if a x xs false same e = absurd (true≢false (sym e))
-
-  kept_also : (a x : Want) (xs : List Want) (b : Bool) → Among a xs → Among a (cond b (x ∷ xs) xs)
-  kept_also a x xs true here = inr here
-  kept_also a x xs false here = here
-
-  passing : (ws : List Want) (a : Want) → Among a ws → t a ≡ true → Among a (filter t ws)
-  passing [] a here is = absurd here
-  passing (x ∷ xs) a (inl same) is = kept_if a x (filter t xs) (t x) same (ap t same ∙ is)
-  passing (x ∷ xs) a (inr there) is = kept_also a x (filter t xs) (t x) (passing xs a there is)
-
-  was_by : (a x : Want) (xs kept : List Want) (b : Bool) → Among a (cond b (x ∷ kept) kept) → (Among a kept → Among a xs) → Among a (x ∷ xs)
-  was_by a x xs kept true (inl same) back = inl same
-  was_by a x xs kept true (inr here) back = inr (back here)
-  was_by a x xs kept false here back = inr (back here)
-
-  was_there : (ws : List Want) (a : Want) → Among a (filter t ws) → Among a ws
-  was_there [] a here = absurd here
-  was_there (x ∷ xs) a here = was_by a x xs (filter t xs) (t x) here (was_there xs a)
 
 abbrev asks_unknown : Text → List Request → Want → Bool
 asks_unknown w rs a = is_of kind.Lock a && is_unknown w rs a
@@ -72,7 +50,7 @@ module _ (w : Text) (rs : List Request) (older newer : List Want) (none : NoneNe
   still : (a : Want) → Among a newer → asks_unknown w rs a ≡ false
   still (want.Lock p l) here =
       off_at (asks_unknown w rs) older (want.Lock p l)
-      (was_there (is_of kind.Lock) older (want.Lock p l) (none (want.Lock p l) (passing (is_of kind.Lock) newer (want.Lock p l) here refl)))
+      (want_of kind.Lock (want.Lock p l) older (none (want.Lock p l) (of_kind kind.Lock (want.Lock p l) newer refl here)))
       known
   still (want.Pod p) here = refl
   still (want.LookUp p cache entry age) here = refl
@@ -93,28 +71,21 @@ none_new_by f g has one state is told =
 
 -- ---- no request is lost
 
-module _ (w : Text) (rs ts : List Request) (ws : List Want) (keeps : KeepsRequests rs ts) (known : NoneUnknown w rs ws) where
-  has_by : (p : Path) (l : LockId) → Among (want.Lock p l) ws → (o : Option Request) → request_of ts (key w p) ≡ o → is_none o ≡ false
-  has_by p l here None e =
-      absurd (true≢false (sym (ap is_none (keeps (key w p) e)) ∙ off_at (asks_unknown w rs) ws (want.Lock p l) here known))
-  has_by p l here (Some r) e = refl
+module _ (w : Text) (rs ts : List Request) (keeps : KeepsRequests rs ts) where
+  lost_before : (p : Path) (o : Option Request) → request_of ts (key w p) ≡ o → is_none o ≡ true → is_none (request_of rs (key w p)) ≡ true
+  lost_before p None e is = ap is_none (keeps (key w p) e)
+  lost_before p (Some r) e is = absurd (true≢false (sym is))
 
-  has : (a : Want) → Among a ws → asks_unknown w ts a ≡ false
-  has (want.Lock p l) here = has_by p l here (request_of ts (key w p)) refl
-  has (want.Pod p) here = refl
-  has (want.LookUp p cache entry age) here = refl
-  has (want.Arming p) here = refl
-  has (want.Timer p tick) here = refl
-  has (want.Save p cache entry o) here = refl
-
-  pub kept_known : NoneUnknown w ts ws
-  kept_known = lacks_by (asks_unknown w ts) ws has
+  -- what is unknown now was unknown before
+  pub unknown_before : (a : Want) → is_unknown w ts a ≡ true → is_unknown w rs a ≡ true
+  unknown_before (want.Lock p l) e = lost_before p (request_of ts (key w p)) refl e
+  unknown_before (want.Pod p) e = e
+  unknown_before (want.LookUp p cache entry age) e = e
+  unknown_before (want.Arming p) e = e
+  unknown_before (want.Timer p tick) e = e
+  unknown_before (want.Save p cache entry o) e = e
 
 -- ---- what a job knows
-
--- nothing is known
-pub none_known : (w : Text) (f : Flow) (book : Option (Seen Book)) (b : Bool) → b ≡ false → FiledOf b w f book
-none_known w f book b e = record { none = λ is. absurd (true≢false (sym is ∙ e)) }
 
 -- by the book that a view has
 pub known_by :
@@ -141,12 +112,12 @@ module _ (j : OneJob) (s : Snapshot Content) (shows : ShowsFlow s j.workflow j.v
       one ∙ ap (λ (x : Seen Flow). x.content) other
 
   -- of the workflow in the snapshot
-  pub filed_of :
-      (b : Bool) (f : Flow) → Some f ≡ flow_in (Some s.content) → FiledFits b j.workflow j.views.flow j.views.book →
-      FiledOf b j.workflow f j.views.book
-  filed_of b f found fits =
+  pub left_of :
+      {C : Type 0} (k : WantKind) (left : C → Want → Bool) (ahead : Option (List Want)) (view : Option (Seen C)) (f : Flow) →
+      Some f ≡ flow_in (Some s.content) → LeftFits k left ahead j.views.flow view → LeftOf k left ahead f view
+  left_of k left ahead view f found fits =
       let flow = seen s.version shows.flow s.tick in
-      subst (λ (f : Flow). FiledOf b j.workflow f j.views.book) (sym (shown_flow f flow found shows.viewed)) (fits flow shows.viewed)
+      subst (λ (f : Flow). LeftOf k left ahead f view) (sym (shown_flow f flow found shows.viewed)) (fits flow shows.viewed)
 
   -- by a book that is read now
   pub known_all :
@@ -195,49 +166,119 @@ none_by_state w rs f state None b same found told is =
     sym (found ∙ ap (λ (s : Workflow). find (λ a. is_of kind.Lock a && is_unknown w rs a) (wants s.manifest s.facts)) same)
 none_by_state w rs f state (Some a) b same found told is = absurd (true≢false (told ∙ ap not is))
 
--- over a release
-content_of : (t : Snapshot Content) (o : Option Book) (c : Seen Book) → option_map (λ (x : Book). seen t.version x t.tick) o ≡ Some c → o ≡ Some c.content
-content_of t None c e = absurd (cc)
-content_of t (Some x) c e = let one : seen t.version x t.tick ≡ c = cc in ap (λ (v : Seen Book). Some v.content) one
+-- ---- what is left
 
-pub over_release :
-    (j : OneJob) (b : Bool) {s : Snapshot Content} (t : Snapshot Content) → ShowsBook s j.views → FiledFits b j.workflow j.views.flow j.views.book →
-    BookGoesOn j.views t.content → FiledFits b j.workflow j.views.flow (book_seen t)
-over_release j b {s} t shows fits goes = λ v viewed. record {
-  none = λ is c shown.
-      let book = seen s.version shows.book s.tick in
-      kept_known j.workflow shows.book.requests c.content.requests (wants_of v.content)
-      (goes book c.content shows.viewed (content_of t (locks_in (Some t.content)) c shown))
-      ((fits v viewed).none is book shows.viewed);
+-- nothing, where each lock is known to be filed
+none_filed : (b : Bool) (w : Text) (f : Flow) (book : Option (Seen Book)) → FiledOf b w f book → FilingOf (cond b (Some []) None) w f book
+none_filed true w f book filed = record {
+  fits = λ c viewed. known_ahead kind.Lock (to_file w c.content) [] (wants_of f) (none_ahead kind.Lock (to_file w c.content) (wants_of f) (filed.none refl c viewed));
+}
+none_filed false w f book filed = record { fits = λ c viewed. none_known kind.Lock (to_file w c.content) None (wants_of f) refl }
+
+pub filing_by :
+    (b : Bool) (w : Text) (flow : Option (Seen Flow)) (book : Option (Seen Book)) (ahead : Option (List Want)) → ahead ≡ cond b (Some []) None →
+    FiledFits b w flow book → FilingFits ahead w flow book
+filing_by b w flow book ahead is filed = λ s viewed.
+    subst (λ (o : Option (List Want)). FilingOf o w s.content book) (sym is) (none_filed b w s.content book (filed s viewed))
+
+-- where nothing is left, each lock is filed
+pub filed_by_nothing :
+    (w : Text) (flow : Option (Seen Flow)) (book : Option (Seen Book)) (ahead : Option (List Want)) → ahead ≡ Some [] →
+    FilingFits ahead w flow book → FiledFits true w flow book
+filed_by_nothing w flow book ahead is fits = λ s viewed. record {
+  none = λ _ c shown.
+      none_left kind.Lock (to_file w c.content) (wants_of s.content) (((fits s viewed).fits c shown).fits [] is);
 }
 
--- ---- nothing is filed where no lock is unknown
+-- where it is not known what is left, nothing is told
+pub unknown_fits :
+    {C : Type 0} (k : WantKind) (left : C → Want → Bool) (ahead : Option (List Want)) (flow : Option (Seen Flow)) (view : Option (Seen C)) →
+    ahead ≡ None → LeftFits k left ahead flow view
+unknown_fits k left ahead flow view is = λ s viewed. record {
+  fits = λ c shown. none_known k (left c.content) ahead (wants_of s.content) is;
+}
+
+module _ (k : WantKind) (t : Text → Want → Bool) (j : OneJob) (w : Text) (same : w ≡ j.workflow) (s : Snapshot Content) (shows : ShowsFlow s j.workflow j.views) (object : Flow) (found : Some object ≡ flow_in (Some s.content)) (state : Workflow) (is : state ≡ record { manifest = object.manifest; facts = object.journal }) where
+  -- by an object that goes on from the one that was read
+  pub ready :
+      {C : Type 0} (left : C → Want → Bool) (ahead : Option (List Want)) (view : Option (Seen C)) (c : Seen C) → view ≡ Some c →
+      ((a : Want) → t j.workflow a ≡ true → left c.content a ≡ true) → LeftFits k left ahead j.views.flow view →
+      AheadOf k (t w) ahead (wants state.manifest state.facts)
+  ready left ahead view c viewed more fits =
+      let v = seen s.version shows.flow s.tick in
+      subst (λ (x : Workflow). AheadOf k (t w) ahead (wants x.manifest x.facts)) (sym is)
+      (subst (λ (w : Text). AheadOf k (t w) ahead (wants_of object)) (sym same)
+      (subst (λ (f : Flow). AheadOf k (t j.workflow) ahead (wants_of f)) (sym (shown_flow j s shows object v found shows.viewed))
+      (fewer_left k (left c.content) (t j.workflow) ahead (wants_of shows.flow) more ((fits v shows.viewed).fits c viewed))))
+
+  pub moved_on :
+      {E : Type 0} (r : Result (Option (List Want)) E) → IfOk r (λ a. AheadOf k (t w) a (wants state.manifest state.facts)) →
+      IfOk r (λ a. (v : Seen Flow) → j.views.flow ≡ Some v → AheadOf k (t j.workflow) a (wants_of v.content))
+  moved_on (Err e) left = tt
+  moved_on (Ok a) left = λ v viewed.
+      subst (λ (f : Flow). AheadOf k (t j.workflow) a (wants_of f)) (shown_flow j s shows object v found viewed)
+      (subst (λ (w : Text). AheadOf k (t w) a (wants_of object)) same
+      (subst (λ (x : Workflow). AheadOf k (t w) a (wants x.manifest x.facts)) is left))
+
+-- by the book in a snapshot
+pub in_book :
+    (w : Text) (flow : Option (Seen Flow)) (t : Snapshot Content) (book : locks.Book) (ahead : Option (List Want)) →
+    Some (law_book book) ≡ locks_in (Some t.content) →
+    ((s : Seen Flow) → flow ≡ Some s → AheadOf kind.Lock (is_unknown w book.requests) ahead (wants_of s.content)) →
+    FilingFits ahead w flow (book_seen t)
+in_book w flow t book ahead kept left = λ s viewed. record {
+  fits = λ c shown.
+      let read : Some (seen t.version (law_book book) t.tick) ≡ Some c = ap (option_map (λ (x : Book). seen t.version x t.tick)) kept ∙ shown in
+      let here : seen t.version (law_book book) t.tick ≡ c = cc in
+      subst (λ (x : Seen Book). AheadOf kind.Lock (to_file w x.content) ahead (wants_of s.content)) here (left s viewed);
+}
+
+-- ---- what is sought among what is left to be filed
 
 module _ (r : Reading) where
   abbrev filed_by : Path → LockId → Option (Seen Book) → Option Matter
   filed_by p l o = option_and_then (λ (b : Seen Book). next.if_unknown (reads.law r) (reads.workflow r) (reads.views r) (reads.flow r) p l (request_of b.content.requests (key (reads.workflow r) p))) o
 
-  not_again : (p : Path) (l : LockId) (o : Option Request) → is_none o ≡ false → next.if_unknown (reads.law r) (reads.workflow r) (reads.views r) (reads.flow r) p l o ≡ None
-  not_again p l None e = absurd (true≢false e)
-  not_again p l (Some q) e = refl
+  by_request : (p : Path) (l : LockId) (o : Option Request) → is_some (next.if_unknown (reads.law r) (reads.workflow r) (reads.views r) (reads.flow r) p l o) ≡ true → is_none o ≡ true
+  by_request p l None e = refl
+  by_request p l (Some q) e = absurd (true≢false (sym e))
 
-  module _ (fits : reads.IsFiledMarked r) (marked : r.filed.now.all ≡ true) where
-    none_by : (p : Path) (l : LockId) → Among (want.Lock p l) (wants_of r.object.now) → (o : Option (Seen Book)) → (reads.views r).book ≡ o → filed_by p l o ≡ None
-    none_by p l here None e = refl
-    none_by p l here (Some b) e =
-        not_again p l (request_of b.content.requests (key (reads.workflow r) p))
-        (off_at (asks_unknown (reads.workflow r) b.content.requests) (wants_of r.object.now) (want.Lock p l) here (fits.none marked b e))
+  filing_unknown : (b : Seen Book) → (reads.views r).book ≡ Some b → (a : Want) → is_some (reads.filing r a) ≡ true → is_unknown (reads.workflow r) b.content.requests a ≡ true
+  filing_unknown b viewed (want.Lock p l) e =
+      by_request p l (request_of b.content.requests (key (reads.workflow r) p)) (ap (λ (o : Option (Seen Book)). is_some (filed_by p l o)) (sym viewed) ∙ e)
+  filing_unknown b viewed (want.Pod p) e = e
+  filing_unknown b viewed (want.LookUp p cache entry age) e = e
+  filing_unknown b viewed (want.Arming p) e = e
+  filing_unknown b viewed (want.Timer p tick) e = e
+  filing_unknown b viewed (want.Save p cache entry o) e = e
 
-    gives_none : (a : Want) → Among a (wants_of r.object.now) → (is_of kind.Lock a && is_some (reads.filing r a)) ≡ false
-    gives_none (want.Lock p l) here = ap is_some (none_by p l here (reads.views r).book refl)
-    gives_none (want.Pod p) here = refl
-    gives_none (want.LookUp p cache entry age) here = refl
-    gives_none (want.Arming p) here = refl
-    gives_none (want.Timer p tick) here = refl
-    gives_none (want.Save p cache entry o) here = refl
+  no_filing : (reads.views r).book ≡ None → (a : Want) → is_some (reads.filing r a) ≡ false
+  no_filing none (want.Lock p l) = ap (λ (o : Option (Seen Book)). is_some (filed_by p l o)) none
+  no_filing none (want.Pod p) = refl
+  no_filing none (want.LookUp p cache entry age) = refl
+  no_filing none (want.Arming p) = refl
+  no_filing none (want.Timer p tick) = refl
+  no_filing none (want.Save p cache entry o) = refl
 
-    pub none_to_file : None ≡ reads.asked r (reads.filing r)
-    none_to_file =
-        sym
-        (asked_found kind.Lock (reads.filing r) (wants_of r.object.now) (filing_only r)
-        ∙ ap (option_and_then (reads.filing r)) (lacks_by (λ a. is_of kind.Lock a && is_some (reads.filing r a)) (wants_of r.object.now) gives_none))
+  none_at_all : (a : Want) (k b : Bool) → b ≡ false → (k && b) ≡ false
+  none_at_all a true b e = e
+  none_at_all a false b e = refl
+
+  both_none : (o : Option (List Want)) (ws : List Want) → ((a : Want) → is_some (reads.filing r a) ≡ false) → FindsBy kind.Lock (λ a. is_some (reads.filing r a)) o ws
+  both_none o ws none = record {
+    finds = λ ahead known.
+        lacks_by (λ a. is_some (reads.filing r a)) ahead (λ a _. none a)
+        ∙ sym (lacks_by (λ a. is_of kind.Lock a && is_some (reads.filing r a)) ws (λ a _. none_at_all a (is_of kind.Lock a) (is_some (reads.filing r a)) (none a)));
+  }
+
+  among_by : (o : Option (Seen Book)) → (reads.views r).book ≡ o → reads.KnowsFiling r → FindsBy kind.Lock (λ a. is_some (reads.filing r a)) r.to_file.now (wants_of r.object.now)
+  among_by None viewed knows = both_none r.to_file.now (wants_of r.object.now) (no_filing viewed)
+  among_by (Some b) viewed knows =
+      finds_among kind.Lock (to_file (reads.workflow r) b.content) (λ a. is_some (reads.filing r a)) r.to_file.now (wants_of r.object.now)
+      (filing_unknown b viewed) (knows.fits b viewed)
+
+  pub filing_among :
+      (state : Workflow) → state ≡ record { manifest = r.object.now.manifest; facts = r.object.now.journal } → reads.KnowsFiling r →
+      FindsBy kind.Lock (λ a. is_some (reads.filing r a)) r.to_file.now (wants state.manifest state.facts)
+  filing_among state is knows =
+      subst (λ (x : Workflow). FindsBy kind.Lock (λ a. is_some (reads.filing r a)) r.to_file.now (wants x.manifest x.facts)) (sym is) (among_by (reads.views r).book refl knows)

@@ -1,5 +1,6 @@
 -- What speaks only of private code.
 pub mod Filing
+pub mod Left
 pub mod Marks
 pub mod Saving
 use Rattle.std.specs.Prelude.{◌≡◌, ℕ, true, List, map, reverse, Option, Some, None, is_some, option_map, option_and_then}
@@ -16,9 +17,9 @@ use Rattle.next_step.specs.Replies.{seen}
 use Rattle.worker_job.specs.declared.job.SeenPod.{SeenPod}
 use Rattle.worker_job.specs.declared.job.Job.TheInside.{Inside}
 use Rattle.worker_job.specs.Jobs.{OneJob}
-use Rattle.worker_job.specs.Inside.Filing.{FiledFits}
+use Rattle.worker_job.specs.Inside.Filing.{FilingFits}
 use Rattle.worker_job.specs.Inside.Marks.{MarksFit}
-use Rattle.worker_job.specs.Inside.Saving.{MarkFits}
+use Rattle.worker_job.specs.Inside.Saving.{SavingFits}
 
 -- ---- what was read, as views
 
@@ -71,9 +72,9 @@ pub record IsKept (w : Text) (flow book saves : Option (Snapshot Content)) : Typ
   pub book_of : IsOf Locks book_seen book
   pub saves_of : IsOf Caches saves_seen saves
 
--- and the marks are right
+-- and the marks and what is left are right
 pub record IsHeld (a : Inside) : Type 0 where
   pub kept : IsKept a.workflow a.flow a.book a.saves
   pub marked : MarksFit (looks_of a) (flow_of a) a.marks
-  pub saved : MarkFits a.saved.path a.workflow (option_and_then flow_seen a.flow) (option_and_then saves_seen a.saves)
-  pub filed : FiledFits a.filed.all a.workflow (option_and_then flow_seen a.flow) (option_and_then book_seen a.book)
+  pub to_save : SavingFits a.to_save a.workflow (option_and_then flow_seen a.flow) (option_and_then saves_seen a.saves)
+  pub to_file : FilingFits a.to_file a.workflow (option_and_then flow_seen a.flow) (option_and_then book_seen a.book)

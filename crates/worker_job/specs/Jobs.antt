@@ -10,7 +10,7 @@ use Rattle.object_store.specs.declared.snapshot.Snapshot.{Snapshot}
 use Rattle.law.specs.Documents.{Text}
 use Rattle.meaning.specs.Answers.{Facts}
 use Rattle.law.specs.Contents.{Flow, Book, Content, OfWorkflow, OfLocks, OfCaches, flow_in}
-use Rattle.law.specs.Due.{Matter, record_fact, save, release}
+use Rattle.law.specs.Due.{Matter, record_fact, save, file, release}
 use Rattle.wf_object.specs.Kept.{locks_in, caches_in}
 use Rattle.next_step.specs.Views.{Seen, Views}
 use Rattle.next_step.specs.Replies.{Job, Ending, goes_on, ended, seen}
@@ -66,7 +66,7 @@ abbrev pub SaveGoesOn : Matter → Views → Content → Type 0
 SaveGoesOn (save cache entry k outputs) v c = SavesGoOn v c
 SaveGoesOn _ v c = Unit {0}
 
--- ---- what a release leaves
+-- ---- what a filing or a release leaves
 
 -- no key loses its request
 abbrev pub KeepsRequests : List Request → List Request → Type 0
@@ -77,10 +77,11 @@ abbrev pub BookGoesOn : Views → Content → Type 0
 BookGoesOn v c =
     (s : Seen Book) (b : Book) → v.book ≡ Some s → locks_in (Some c) ≡ Some b → KeepsRequests s.content.requests b.requests
 
--- where a lock was released
-abbrev pub ReleaseGoesOn : Matter → Views → Content → Type 0
-ReleaseGoesOn (release lock k) v c = BookGoesOn v c
-ReleaseGoesOn _ v c = Unit {0}
+-- where a lock was filed or released
+abbrev pub LocksGoOn : Matter → Views → Content → Type 0
+LocksGoOn (file lock k rank) v c = BookGoesOn v c
+LocksGoOn (release lock k) v c = BookGoesOn v c
+LocksGoOn _ v c = Unit {0}
 
 -- ---- the object of a view
 

@@ -22,8 +22,10 @@ use Rattle.next_step.specs.Replies.{seen}
 use Rattle.worker_job.specs.declared.matter.Next.{Next as Act}
 use Rattle.worker_job.specs.declared.reading.Reading.{Reading}
 use Rattle.worker_job.specs.Told.{next_told}
-use Rattle.worker_job.specs.Inside.Filing.{FiledOf}
-use Rattle.worker_job.specs.Inside.Saving.{MarkFits}
+use Rattle.worker_job.specs.Inside.Left.{LeftOf}
+use Rattle.worker_job.specs.Inside.Filing.{FilingOf}
+use Rattle.worker_job.specs.Inside.Saving.{is_left}
+use Rattle.tree_state.specs.declared.kinds.WantKind.TheVariants as kind
 
 -- a command that resumes nodes of this workflow
 abbrev pub is_resumption : Text → Command → Bool
@@ -51,13 +53,13 @@ module _ (r : Reading) where
   abbrev pub flow : Seen Flow
   flow = seen r.version r.object.now r.tick
 
-  -- what is known to be saved is saved
-  abbrev pub IsSaveMarked : Type 0
-  IsSaveMarked = MarkFits r.saved.now.path workflow (Some flow) views.saves
+  -- what is known to be left to be saved
+  abbrev pub KnowsSaving : Type 0
+  KnowsSaving = LeftOf kind.Save (is_left workflow) r.to_save.now r.object.now views.saves
 
-  -- where it is known that each lock is filed, it is
-  abbrev pub IsFiledMarked : Type 0
-  IsFiledMarked = FiledOf r.filed.now.all workflow r.object.now views.book
+  -- what is known to be left to be filed
+  abbrev pub KnowsFiling : Type 0
+  KnowsFiling = FilingOf r.to_file.now workflow r.object.now views.book
 
   -- ---- questions
 

@@ -1,10 +1,12 @@
 //! What was read and noted in a job.
 
-ghost use Rattle.std.specs.Prelude.{◌≡◌, ◌∷◌, None, Some, true, not, List as Seq, map, filter, bytes_eq, is_some, IfOk, OnOk, MatchOption, option_copied, option_map, option_and_then, IsTrue};
+ghost use Rattle.std.specs.Prelude.{◌≡◌, ◌∷◌, [], None, Some, true, not, cond, List as Seq, map, filter, bytes_eq, is_some, IfOk, OnOk, MatchOption, option_copied, option_map, option_and_then, IsTrue};
 ghost use Rattle.std.specs.List.{list_any};
 ghost use Rattle.tree_types.specs.declared.entry.Key.TheVariants as of_key;
-ghost use Rattle.law.specs.Contents.{Flow, flow_in};
+ghost use Rattle.law.specs.Contents.{Flow, Book, flow_in};
 ghost use Rattle.law.specs.Justified.{wants_of};
+ghost use Rattle.tree_state.specs.declared.kinds.WantKind.TheVariants as kind;
+ghost use Rattle.ahead.specs.Left.{AheadOf};
 ghost use Rattle.pod_laws.specs.NewPods.{NoneNew};
 ghost use Rattle.pod_laws.specs.NewLocks.{locks};
 ghost use Rattle.saves.specs.declared.Saved.{Saved};
@@ -13,18 +15,19 @@ ghost use Rattle.wf_object.specs.Kept.{law_book, locks_in, caches_in};
 ghost use Rattle.next_step.specs.Views.{Seen, nothing, is_look, look_at, pod_seen};
 ghost use Rattle.next_step.specs.Next.{worker_next, get, act};
 ghost use Rattle.next_step.specs.Replies.{after, taken, with_look, seen, found, accepted, no_object, exists};
-ghost use Rattle.worker_job.specs.Jobs.{Leaves, IsRead, HasMore, GoesOn, FactGoesOn, HasMoreSaves, SavesGoOn, SaveGoesOn, BookGoesOn, ReleaseGoesOn, ShowsFlow, ShowsBook, ShowsSaves};
+ghost use Rattle.worker_job.specs.Jobs.{Leaves, IsRead, HasMore, GoesOn, FactGoesOn, HasMoreSaves, SavesGoOn, SaveGoesOn, BookGoesOn, LocksGoOn, KeepsRequests, ShowsFlow, ShowsBook, ShowsSaves};
 ghost use Rattle.worker_job.specs.Told.{matter_told, next_told, key_of};
-ghost use Rattle.worker_job.specs.Inside.Filing.{FiledOf, FiledFits};
+ghost use Rattle.worker_job.specs.Inside.Filing.{is_unknown, FiledOf, FiledFits, FilingFits};
 ghost use Rattle.worker_job.specs.Inside.Marks.{IsMarked, MarksFit};
-ghost use Rattle.worker_job.specs.Inside.Saving.{MarkFits, NoneLeft};
+ghost use Rattle.worker_job.specs.Inside.Saving.{is_left, SavingFits};
 ghost use Rattle.worker_job.specs.Inside.{look_told, pod_told, kept_saves, flow_seen, book_seen, saves_seen};
 
 use crate::marks::{Marks, Pods};
 use crate::matter::{Matter, Next};
 use crate::reading::Reading;
-use crate::save_mark::{SaveMark, ToSave};
-use crate::to_file::{FileMark, ToFile};
+use crate::to_file::ToFile;
+use crate::to_save::ToSave;
+use ahead::Ahead;
 use base_types::{List, Memory, Names, Text, TryCopy};
 use looks::{Look, Looks};
 use memo_cache::Cache;
@@ -33,7 +36,8 @@ use std::alloc::Global;
 use std::marker::Model;
 use std::mem;
 use sync_locks::LockBook;
-use tree_types::{Fact, Key, Path};
+use tree_incr::WantKind;
+use tree_types::{Fact, Key};
 use wf_bundle::Document;
 use wf_object::{PodObject, WfContent, WfObject};
 
@@ -53,8 +57,8 @@ pub struct Job {
     saves: Option<Snapshot<WfContent>>,
     looks: Looks<SeenPod>,
     marks: Marks,
-    saved: SaveMark,
-    filed: FileMark,
+    to_save: Ahead,
+    to_file: Ahead,
     // The names of the resubmissions that were tried, the last one last.
     tried: Names,
 }
@@ -69,8 +73,8 @@ impl Drop for Job {
             saves: _,
             looks: _,
             marks: _,
-            saved: _,
-            filed: _,
+            to_save: _,
+            to_file: _,
             tried: _,
         } = self;
     }
@@ -103,8 +107,8 @@ impl Job {
             saves: None,
             looks: Looks::new(alloc),
             marks: Marks::none(),
-            saved: SaveMark::none(),
-            filed: FileMark { all: false },
+            to_save: Ahead::unknown(),
+            to_file: Ahead::unknown(),
             tried: List::new(alloc),
         }
     }
@@ -134,8 +138,8 @@ impl Job {
                     version: snapshot.version,
                     tick: snapshot.tick,
                     marks: &self.marks,
-                    saved: &self.saved,
-                    filed: &self.filed,
+                    to_save: &self.to_save,
+                    to_file: &self.to_file,
                 };
                 reading.next()
             }
@@ -242,10 +246,7 @@ impl Job {
         match &snapshot.key {
             Key::Workflow(_) => Ok(self.keep_flow(snapshot)),
             Key::Pod(_, name) => self.keep_pod(name, &snapshot),
-            Key::Locks => {
-                let filed = self.knows_all(&snapshot);
-                Ok(self.keep_book(snapshot, filed))
-            }
+            Key::Locks => Ok(self.keep_book(snapshot)),
             Key::Caches => Ok(self.keep_saves(snapshot)),
         }
     }
@@ -270,7 +271,7 @@ impl Job {
         requires key { snapshot.key ≡ key_of self.old.workflow (matter_told matter.now) }
         requires goes_on { FactGoesOn (matter_told matter.now) self.old.views snapshot.content }
         requires saved { SaveGoesOn (matter_told matter.now) self.old.views snapshot.content }
-        requires released { ReleaseGoesOn (matter_told matter.now) self.old.views snapshot.content }
+        requires locks { LocksGoOn (matter_told matter.now) self.old.views snapshot.content }
         ensures after { IfOk result (λ on. Leaves on
             (after self.old.views (act (matter_told matter.now))
             (accepted (seen snapshot.version snapshot.content snapshot.tick))) self.new.views) }
@@ -278,13 +279,8 @@ impl Job {
     {
         match matter {
             Matter::RecordFact(fact) => self.go_on(fact, snapshot),
-            Matter::Save(_, _, writer, _) => self.save_on(&writer.path, snapshot),
-            // One of many filings in a row: what is left is looked for at the next fact.
-            Matter::File(_, _, _) => Ok(self.keep_book(snapshot, false)),
-            Matter::Release(_, _) => {
-                let filed = self.keeps_filed(&snapshot);
-                Ok(self.keep_book(snapshot, filed))
-            }
+            Matter::Save(_, _, _, _) => self.save_on(snapshot),
+            Matter::File(_, _, _) | Matter::Release(_, _) => self.book_on(snapshot),
             Matter::Submit(resubmission) => {
                 self.note_try(&resubmission.name)?;
                 Ok(true)
@@ -367,10 +363,9 @@ impl Job {
             Some(book) => {
                 let to_file = ToFile {
                     workflow: &self.workflow,
-                    object,
                     book,
                 };
-                to_file.is_done()
+                to_file.is_done(object)
             }
         }
     }
@@ -387,22 +382,10 @@ impl Job {
             Some(object) => {
                 let to_file = ToFile {
                     workflow: &self.workflow,
-                    object,
                     book,
                 };
-                to_file.is_done()
+                to_file.is_done(object)
             }
-        }
-    }
-
-    // Whether it was known that each lock is filed, and the book goes on to one of a release.
-    fn keeps_filed(&self, later: &Snapshot<WfContent>) -> bool
-        requires { BookGoesOn self.now.views later.now.content }
-        ensures { FiledFits result self.now.workflow self.now.views.flow (book_seen later.now) }
-    {
-        match self.book() {
-            None => false,
-            Some(_) => self.filed.all,
         }
     }
 
@@ -417,7 +400,7 @@ impl Job {
         let Some(before) = flow.content.workflow() else {
             return false;
         };
-        self.filed.all && adds_no_lock(before, object)
+        self.to_file.is_nothing() && adds_no_lock(before, object)
     }
 
     // The marks, where the workflow becomes this one by a fact.
@@ -438,19 +421,60 @@ impl Job {
         }
     }
 
-    fn keep_book(&mut self, snapshot: Snapshot<WfContent>, filed: bool) -> bool
-        requires key { snapshot.key ≡ of_key.Locks }
-        requires filed { FiledFits filed self.old.workflow self.old.views.flow (book_seen snapshot) }
+    fn keep_book(&mut self, snapshot: Snapshot<WfContent>) -> bool
+        requires { snapshot.key ≡ of_key.Locks }
         ensures after { Leaves result
             (taken self.old.views snapshot.key snapshot.version snapshot.tick snapshot.content)
             self.new.views }
         ensures workflow { self.new.workflow ≡ self.old.workflow }
     {
         if snapshot.content.locks().is_some() {
-            self.set_book(snapshot, filed);
+            let filed = self.knows_all(&snapshot);
+            let to_file = nothing_if(self.workflow.allocator(), filed);
+            self.set_book(snapshot, to_file);
             true
         } else {
             false
+        }
+    }
+
+    // A lock was filed or released, and the book is this one now.
+    fn book_on(&mut self, snapshot: Snapshot<WfContent>) -> Result<bool, Memory>
+        requires key { snapshot.key ≡ of_key.Locks }
+        requires goes_on { BookGoesOn self.old.views snapshot.content }
+        ensures after { IfOk result (λ on. Leaves on
+            (taken self.old.views snapshot.key snapshot.version snapshot.tick snapshot.content)
+            self.new.views) }
+        ensures workflow { self.new.workflow ≡ self.old.workflow }
+    {
+        let to_file = mem::replace(&mut self.to_file, Ahead::unknown());
+        let Some(book) = snapshot.content.locks() else {
+            return Ok(false);
+        };
+        let to_file = self.left_to_file(to_file, book)?;
+        self.set_book(snapshot, to_file);
+        Ok(true)
+    }
+
+    // What is left to be filed, where the book becomes this one.
+    fn left_to_file(&self, ahead: Ahead, book: &LockBook) -> Result<Ahead, Memory>
+        requires fits { FilingFits ahead self.now.workflow self.now.views.flow self.now.views.book }
+        requires more { (s : Seen Book) → self.now.views.book ≡ Some s → KeepsRequests s.content.requests book.now.requests }
+        ensures { IfOk result (λ ahead. (s : Seen Flow) → self.now.views.flow ≡ Some s
+            → AheadOf kind.Lock (is_unknown self.now.workflow book.now.requests) ahead (wants_of s.content)) }
+    {
+        let (Some(flow), Some(_)) = (self.flow(), self.book()) else {
+            return Ok(Ahead::unknown());
+        };
+        match flow.content.workflow() {
+            None => Ok(Ahead::unknown()),
+            Some(object) => {
+                let left = ToFile {
+                    workflow: &self.workflow,
+                    book,
+                };
+                ahead.moved(WantKind::Lock, &left, object.state())
+            }
         }
     }
 
@@ -462,15 +486,15 @@ impl Job {
         ensures workflow { self.new.workflow ≡ self.old.workflow }
     {
         if snapshot.content.caches().is_some() {
-            self.set_saves(snapshot, SaveMark::none());
+            self.set_saves(snapshot, Ahead::unknown());
             true
         } else {
             false
         }
     }
 
-    // A path saved something, and the saves are these now.
-    fn save_on(&mut self, path: &Path, snapshot: Snapshot<WfContent>) -> Result<bool, Memory>
+    // Something was saved, and the saves are these now.
+    fn save_on(&mut self, snapshot: Snapshot<WfContent>) -> Result<bool, Memory>
         requires key { snapshot.key ≡ of_key.Caches }
         requires goes_on { SavesGoOn self.old.views snapshot.content }
         ensures after { IfOk result (λ on. Leaves on
@@ -478,32 +502,33 @@ impl Job {
             self.new.views) }
         ensures workflow { self.new.workflow ≡ self.old.workflow }
     {
+        let to_save = mem::replace(&mut self.to_save, Ahead::unknown());
         let Some(saves) = snapshot.content.caches() else {
             return Ok(false);
         };
-        let saved = self.saved_at(path, saves)?;
-        self.set_saves(snapshot, saved);
+        let to_save = self.left_to_save(to_save, saves)?;
+        self.set_saves(snapshot, to_save);
         Ok(true)
     }
 
-    // Up to which path all is saved, where the saves become these by one of a path.
-    fn saved_at(&self, path: &Path, saves: &Cache) -> Result<SaveMark, Memory>
-        requires { (s : Seen (Seq Saved)) → self.now.views.saves ≡ Some s → HasMoreSaves s.content saves.now }
-        ensures { IfOk result (λ mark. (s : Seen Flow) → self.now.views.flow ≡ Some s
-            → NoneLeft mark.path self.now.workflow saves.now (wants_of s.content)) }
+    // What is left to be saved, where the saves become these.
+    fn left_to_save(&self, ahead: Ahead, saves: &Cache) -> Result<Ahead, Memory>
+        requires fits { SavingFits ahead self.now.workflow self.now.views.flow self.now.views.saves }
+        requires more { (s : Seen (Seq Saved)) → self.now.views.saves ≡ Some s → HasMoreSaves s.content saves.now }
+        ensures { IfOk result (λ ahead. (s : Seen Flow) → self.now.views.flow ≡ Some s
+            → AheadOf kind.Save (is_left self.now.workflow saves.now) ahead (wants_of s.content)) }
     {
-        let (Some(flow), Some(_)) = (self.flow(), self.cache()) else {
-            return Ok(SaveMark::none());
+        let (Some(flow), Some(_)) = (self.flow(), self.saves()) else {
+            return Ok(Ahead::unknown());
         };
         match flow.content.workflow() {
-            None => Ok(SaveMark::none()),
+            None => Ok(Ahead::unknown()),
             Some(object) => {
-                let to_save = ToSave {
+                let left = ToSave {
                     workflow: &self.workflow,
-                    object,
                     saves,
                 };
-                to_save.moved(&self.saved, path)
+                ahead.moved(WantKind::Save, &left, object.state())
             }
         }
     }
@@ -543,31 +568,31 @@ impl Job {
     {
         self.flow = Some(snapshot);
         self.saves = None;
-        self.saved = SaveMark::none();
-        self.filed = FileMark { all: filed };
+        self.to_save = Ahead::unknown();
+        self.to_file = nothing_if(self.workflow.allocator(), filed);
         self.marks = marks_behind(&self.flow, &self.looks, marks);
     }
 
-    fn set_book(&mut self, snapshot: Snapshot<WfContent>, filed: bool)
+    fn set_book(&mut self, snapshot: Snapshot<WfContent>, to_file: Ahead)
         requires key { snapshot.key ≡ of_key.Locks }
         requires kind { is_some (locks_in (Some snapshot.content)) ≡ true }
-        requires filed { FiledFits filed self.old.workflow self.old.views.flow (book_seen snapshot) }
+        requires to_file { FilingFits to_file self.old.workflow self.old.views.flow (book_seen snapshot) }
         ensures views { self.new.views ≡ record self.old.views { book = book_seen snapshot } }
         ensures workflow { self.new.workflow ≡ self.old.workflow }
     {
         self.book = Some(snapshot);
-        self.filed = FileMark { all: filed };
+        self.to_file = to_file;
     }
 
-    fn set_saves(&mut self, snapshot: Snapshot<WfContent>, saved: SaveMark)
+    fn set_saves(&mut self, snapshot: Snapshot<WfContent>, to_save: Ahead)
         requires key { snapshot.key ≡ of_key.Caches }
         requires kind { is_some (caches_in (Some snapshot.content)) ≡ true }
-        requires saved { MarkFits saved.path self.old.workflow self.old.views.flow (saves_seen snapshot) }
+        requires to_save { SavingFits to_save self.old.workflow self.old.views.flow (saves_seen snapshot) }
         ensures views { self.new.views ≡ record self.old.views { saves = saves_seen snapshot } }
         ensures workflow { self.new.workflow ≡ self.old.workflow }
     {
         self.saves = Some(snapshot);
-        self.saved = saved;
+        self.to_save = to_save;
     }
 
     // A look at the pod of a name.
@@ -618,6 +643,17 @@ fn marks_behind(flow: &Option<Snapshot<WfContent>>, looks: &Looks<SeenPod>, mark
     match snapshot.content.workflow() {
         None => marks,
         Some(object) => Pods { looks, object }.advanced(marks),
+    }
+}
+
+// Nothing is left, where that is so; else it is not known what is.
+fn nothing_if(alloc: Global, is_so: bool) -> Ahead
+    ensures { result ≡ cond is_so (Some []) None }
+{
+    if is_so {
+        Ahead::nothing(alloc)
+    } else {
+        Ahead::unknown()
     }
 }
 

@@ -7,9 +7,9 @@ mod marks;
 mod matter;
 mod queries;
 mod reading;
-mod save_mark;
 mod steps;
 mod to_file;
+mod to_save;
 
 pub use job::Job;
 pub use matter::{Matter, Next, Resubmission};

@@ -1,6 +1,8 @@
 //! The first want or node of the tree that gives something.
 
-ghost use Rattle.std.specs.Prelude.{◌≡◌, ◌&&◌, not, Some, None, is_some, option_map};
+ghost use Rattle.std.specs.Prelude.{◌≡◌, Some, None, is_some, option_map};
+ghost use Rattle.tree_state.specs.declared.kinds.WantKind.TheVariants as kind;
+ghost use Rattle.ahead.specs.Left.{AheadOf};
 ghost use Rattle.tree_types.specs.declared.fact.Fact.TheVariants as fact;
 ghost use Rattle.tree_types.specs.declared.entry.Key.TheVariants as of_key;
 ghost use Rattle.tree_types.specs.declared.want.Want.{Want as Wanted};
@@ -10,7 +12,7 @@ ghost use Rattle.law.specs.Due.{record_fact, file, create, save, release};
 ghost use Rattle.next_step.specs.Views.{first_given};
 ghost use Rattle.next_step.specs.Next.{get};
 ghost use Rattle.worker_job.specs.Inside.Marks.{IsMarked};
-ghost use Rattle.worker_job.specs.Inside.Saving.{covers, NoneLeft};
+ghost use Rattle.worker_job.specs.Inside.Saving.{is_left};
 ghost use Rattle.worker_job.specs.Readings as reads;
 
 use crate::marks::{Read, Sought};
@@ -62,7 +64,7 @@ impl<'a> WantTest for Reached<'a> {
     }
 }
 
-// What is not among the saves. What the mark covers is, and is not looked up.
+// What is not among the saves.
 #[derive(Clone, Copy)]
 struct Unsaved<'a> {
     reading: Reading<'a>,
@@ -70,11 +72,10 @@ struct Unsaved<'a> {
 }
 
 impl<'a> WantTest for Unsaved<'a> {
-    ghost accepts = { λ test want. not (covers test.reading.saved.now.path want)
-        && is_some (reads.saving test.reading test.saves.now want) };
+    ghost accepts = { λ test want. is_some (reads.saving test.reading test.saves.now want) };
 
     fn accepts(&self, want: &Want) -> bool {
-        !self.reading.saved.covers(want) && self.reading.unsaved(self.saves, want).is_some()
+        self.reading.unsaved(self.saves, want).is_some()
     }
 }
 
@@ -151,17 +152,17 @@ impl<'a> Reading<'a> {
 
     // The first lock that the book does not know.
     pub(crate) fn first_unknown(&self) -> Option<(&Path, &LockId, &Text)>
-        requires filed { reads.IsFiledMarked self.now }
+        requires to_file { reads.KnowsFiling self.now }
         ensures { option_map
             (λ u. file u.1.now (justified.key (reads.workflow self.now) u.0.now)
             (justified.rank self.now.object.now.manifest u.0.now.sels u.2.now)) result
             ≡ reads.asked self.now (reads.filing self.now) }
     {
-        if self.filed.all {
-            return None;
-        }
         let test = Unknown { reading: *self };
-        match self.object.state().find_want(WantKind::Lock, &test) {
+        match self
+            .to_file
+            .first(WantKind::Lock, self.object.state(), &test)
+        {
             None => None,
             Some(want) => self.unknown(want),
         }
@@ -193,7 +194,7 @@ impl<'a> Reading<'a> {
 
     // The first that is to be saved and is not among the saves.
     pub(crate) fn first_unsaved(&self, saves: &Cache) -> Option<(&Path, &Text, &Text, &Outputs)>
-        requires saved { NoneLeft self.now.saved.now.path (reads.workflow self.now) saves.now (justified.wants_of self.now.object.now) }
+        requires to_save { AheadOf kind.Save (is_left (reads.workflow self.now) saves.now) self.now.to_save.now (justified.wants_of self.now.object.now) }
         ensures { option_map
             (λ u. save u.1.now u.2.now (justified.key (reads.workflow self.now) u.0.now) u.3.now) result
             ≡ reads.asked self.now (reads.saving self.now saves.now) }
@@ -202,7 +203,10 @@ impl<'a> Reading<'a> {
             reading: *self,
             saves,
         };
-        match self.object.state().find_want(WantKind::Save, &test) {
+        match self
+            .to_save
+            .first(WantKind::Save, self.object.state(), &test)
+        {
             None => None,
             Some(want) => self.unsaved(saves, want),
         }

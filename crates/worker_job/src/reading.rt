@@ -18,8 +18,7 @@ ghost use Rattle.worker_job.specs.Readings as reads;
 use crate::job::Job;
 use crate::marks::{Marks, Pods};
 use crate::matter::Resubmission;
-use crate::save_mark::SaveMark;
-use crate::to_file::FileMark;
+use ahead::Ahead;
 use base_types::{Memory, Shared, Text, TryCopy};
 use books::LockState;
 use item_reader::Command;
@@ -42,8 +41,8 @@ pub(crate) struct Reading<'a> {
     pub(crate) version: u64,
     pub(crate) tick: u64,
     pub(crate) marks: &'a Marks,
-    pub(crate) saved: &'a SaveMark,
-    pub(crate) filed: &'a FileMark,
+    pub(crate) to_save: &'a Ahead,
+    pub(crate) to_file: &'a Ahead,
 }
 
 // Whether the manifest or one of its templates has a lock.

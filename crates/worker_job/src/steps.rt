@@ -9,7 +9,9 @@ ghost use Rattle.next_step.specs.Next as next;
 ghost use Rattle.next_step.specs.Next.{act};
 ghost use Rattle.worker_job.specs.Told.{next_told};
 ghost use Rattle.worker_job.specs.Inside.Marks.{IsMarked};
-ghost use Rattle.worker_job.specs.Inside.Saving.{NoneLeft};
+ghost use Rattle.tree_state.specs.declared.kinds.WantKind.TheVariants as kind;
+ghost use Rattle.ahead.specs.Left.{AheadOf};
+ghost use Rattle.worker_job.specs.Inside.Saving.{is_left};
 ghost use Rattle.worker_job.specs.Readings as reads;
 ghost use Rattle.worker_job.specs.Readings.{step_told};
 
@@ -40,8 +42,8 @@ impl<'a> Reading<'a> {
     // What a worker does next: the first of the steps that applies.
     pub(crate) fn next(&self) -> Result<Next, Memory>
         requires marked { IsMarked self.now.job.now.views.pods self.now.object.now self.now.marks.now }
-        requires saved { reads.IsSaveMarked self.now }
-        requires filed { reads.IsFiledMarked self.now }
+        requires to_save { reads.KnowsSaving self.now }
+        requires to_file { reads.KnowsFiling self.now }
         ensures { IfOk result (λ n. next_told n ≡ next.first_step (reads.steps self.now)) }
     {
         if let Some(next) = self.read_book() {
@@ -59,8 +61,8 @@ impl<'a> Reading<'a> {
     // The same, where the steps before do not apply.
     fn next_answer(&self) -> Result<Next, Memory>
         requires marked { IsMarked self.now.job.now.views.pods self.now.object.now self.now.marks.now }
-        requires saved { reads.IsSaveMarked self.now }
-        requires filed { reads.IsFiledMarked self.now }
+        requires to_save { reads.KnowsSaving self.now }
+        requires to_file { reads.KnowsFiling self.now }
         ensures { IfOk result (λ n. next_told n ≡ next.first_step (reads.answering_steps self.now)) }
     {
         if let Some(next) = self.settle()? {
@@ -77,7 +79,7 @@ impl<'a> Reading<'a> {
 
     fn next_waiting(&self) -> Result<Next, Memory>
         requires marked { IsMarked self.now.job.now.views.pods self.now.object.now self.now.marks.now }
-        requires saved { reads.IsSaveMarked self.now }
+        requires to_save { reads.KnowsSaving self.now }
         ensures { IfOk result (λ n. next_told n ≡ next.first_step (reads.waiting_steps self.now)) }
     {
         if let Some(next) = self.look_up()? {
@@ -94,7 +96,7 @@ impl<'a> Reading<'a> {
 
     fn next_change(&self) -> Result<Next, Memory>
         requires marked { IsMarked self.now.job.now.views.pods self.now.object.now self.now.marks.now }
-        requires saved { reads.IsSaveMarked self.now }
+        requires to_save { reads.KnowsSaving self.now }
         ensures { IfOk result (λ n. next_told n ≡ next.first_step (reads.changing_steps self.now)) }
     {
         if let Some(next) = self.resume()? {
@@ -181,7 +183,7 @@ impl<'a> Reading<'a> {
     }
 
     fn file_one(&self) -> Result<Option<Next>, Memory>
-        requires filed { reads.IsFiledMarked self.now }
+        requires to_file { reads.KnowsFiling self.now }
         ensures { IfOk result (λ step. step_told step ≡ reads.file_one self.now) }
     {
         match self.first_unknown() {
@@ -280,7 +282,7 @@ impl<'a> Reading<'a> {
 
     // The first that is not among the saves.
     fn save_into(&self, saves: &Cache) -> Result<Option<Next>, Memory>
-        requires saved { NoneLeft self.now.saved.now.path (reads.workflow self.now) saves.now (wants_of self.now.object.now) }
+        requires to_save { AheadOf kind.Save (is_left (reads.workflow self.now) saves.now) self.now.to_save.now (wants_of self.now.object.now) }
         ensures { IfOk result (λ step. step_told step
             ≡ option_map act (reads.asked self.now (reads.saving self.now saves.now))) }
     {
@@ -295,7 +297,7 @@ impl<'a> Reading<'a> {
     }
 
     fn save_by_saves(&self) -> Result<Option<Next>, Memory>
-        requires saved { reads.IsSaveMarked self.now }
+        requires to_save { reads.KnowsSaving self.now }
         ensures { IfOk result (λ step. step_told step ≡ reads.save_by_saves self.now) }
     {
         match self.job.cache() {
@@ -305,7 +307,7 @@ impl<'a> Reading<'a> {
     }
 
     fn save_one(&self) -> Result<Option<Next>, Memory>
-        requires saved { reads.IsSaveMarked self.now }
+        requires to_save { reads.KnowsSaving self.now }
         ensures { IfOk result (λ step. step_told step ≡ reads.save_one self.now) }
     {
         if self.asks_save() {

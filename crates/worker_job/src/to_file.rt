@@ -1,4 +1,4 @@
-//! Whether the book knows each lock that a workflow asks for, so that a step looks up none of them.
+//! Which locks are to be filed, and whether a workflow asks for none of them.
 
 ghost use Rattle.std.specs.Prelude.{◌≡◌, IsTrue};
 ghost use Rattle.law.specs.Justified.{wants_of};
@@ -11,17 +11,10 @@ use tree_incr::{WantKind, WantTest};
 use tree_types::Want;
 use wf_object::WfObject;
 
-// Whether each lock that a workflow asks for is known to be filed.
-#[derive(Clone, Copy)]
-pub(crate) struct FileMark {
-    pub(crate) all: bool,
-}
-
-// The locks that a workflow asks for, and the book.
+// A workflow's name, and the book.
 #[derive(Clone, Copy)]
 pub(crate) struct ToFile<'a> {
     pub(crate) workflow: &'a Text,
-    pub(crate) object: &'a WfObject,
     pub(crate) book: &'a LockBook,
 }
 
@@ -36,15 +29,12 @@ impl ToFile<'_> {
         self.book.standing(self.workflow, path).is_none()
     }
 
-    // Whether there is none.
-    pub(crate) fn is_done(&self) -> bool
+    // Whether a workflow asks for none.
+    pub(crate) fn is_done(&self, object: &WfObject) -> bool
         ensures { IsTrue result →
-            NoneUnknown self.now.workflow.now self.now.book.now.requests (wants_of self.now.object.now) }
+            NoneUnknown self.now.workflow.now self.now.book.now.requests (wants_of object.now) }
     {
-        self.object
-            .state()
-            .find_want(WantKind::Lock, self)
-            .is_none()
+        object.state().find_want(WantKind::Lock, self).is_none()
     }
 }
 

@@ -1,4 +1,4 @@
--- Which locks are to be filed, and that a workflow is known to ask for none of them.
+-- Which locks are to be filed, and what of them is left.
 use Rattle.std.specs.Prelude.{◌≡◌, Bool, true, false, ◌&&◌, List, Option, Some, None, is_none}
 use Rattle.std.specs.List.{find}
 use Rattle.tree_types.specs.declared.want.Want.{Want}
@@ -11,6 +11,7 @@ use Rattle.law.specs.Documents.{Text}
 use Rattle.law.specs.Contents.{Flow, Book}
 use Rattle.law.specs.Justified.{wants_of, key}
 use Rattle.next_step.specs.Views.{Seen}
+use Rattle.worker_job.specs.Inside.Left.{LeftOf, LeftFits}
 
 -- a path asks for a lock and filed no request
 abbrev pub is_unknown : Text → List Request → Want → Bool
@@ -28,3 +29,15 @@ pub record FiledOf (b : Bool) (w : Text) (f : Flow) (book : Option (Seen Book)) 
 -- the same of the workflow, where it was read
 abbrev pub FiledFits : Bool → Text → Option (Seen Flow) → Option (Seen Book) → Type 0
 FiledFits b w flow book = (s : Seen Flow) → flow ≡ Some s → FiledOf b w s.content book
+
+-- by a book
+abbrev pub to_file : Text → Book → Want → Bool
+to_file w b a = is_unknown w b.requests a
+
+-- what is left of a workflow by the book
+abbrev pub FilingOf : Option (List Want) → Text → Flow → Option (Seen Book) → Type 0
+FilingOf ahead w f book = LeftOf kind.Lock (to_file w) ahead f book
+
+-- the same of the workflow, where it was read
+abbrev pub FilingFits : Option (List Want) → Text → Option (Seen Flow) → Option (Seen Book) → Type 0
+FilingFits ahead w flow book = LeftFits kind.Lock (to_file w) ahead flow book

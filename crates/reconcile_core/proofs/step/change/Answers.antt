@@ -8,7 +8,7 @@ use Rattle.next_step.specs.Replies.{after}
 use Rattle.worker_job.specs.Told.{matter_told}
 use Rattle.reconcile_core.proofs.Stepping.{change_made, refused_made, goes_on_with, ok_not_err, err_is}
 use Rattle.reconcile_core.specs.Answers.{fault_of}
-use Rattle.reconcile_core.proofs.GoingOn.{answer_goes_on, answer_saves, answer_releases}
+use Rattle.reconcile_core.proofs.GoingOn.{answer_goes_on, answer_saves, answer_locks}
 use Rattle.reconcile_core.proofs.step.change.Goals as goal
 
 pub answered-requires-clause-goes_on : goal.answered-requires-clause-goes_on
@@ -21,9 +21,9 @@ answered-requires-clause-saved g c =
     answer_saves c.args.job.now.workflow c.args.job.now.views (matter_told c.args.matter.now) c.in_ok-plan.plan c.perform-answer.result
     c.in_ok-plan.ensures c.perform-answer.ensures.content
 
-pub answered-requires-clause-released : goal.answered-requires-clause-released
-answered-requires-clause-released g c =
-    answer_releases c.args.job.now.workflow c.args.job.now.views (matter_told c.args.matter.now) c.in_ok-plan.plan c.perform-answer.result
+pub answered-requires-clause-locks : goal.answered-requires-clause-locks
+answered-requires-clause-locks g c =
+    answer_locks c.args.job.now.workflow c.args.job.now.views (matter_told c.args.matter.now) c.in_ok-plan.plan c.perform-answer.result
     c.in_ok-plan.ensures c.perform-answer.ensures.content
 
 pub returns-in_err-plan-clause-made : goal.returns-in_err-plan-clause-made

@@ -1,16 +1,17 @@
--- A content of another kind ends the job.
+-- It is not known what is left, and a content of another kind ends the job.
 use Rattle.std.proofs.Common.{◌∙◌, sym, ap}
 use Rattle.std.specs.Option.{option_copied}
-use Rattle.worker_job.proofs.OtherKinds.{none_by, no_caches}
+use Rattle.tree_state.specs.declared.kinds.WantKind.TheVariants as kind
 use Rattle.worker_job.specs.Inside.{saves_seen}
-use Rattle.worker_job.proofs.Saving.{none_fits}
+use Rattle.worker_job.specs.Inside.Saving.{is_left}
+use Rattle.worker_job.proofs.Filing.{unknown_fits}
+use Rattle.worker_job.proofs.OtherKinds.{none_by, no_caches}
 use Rattle.worker_job.proofs.job.Job.keep_saves.Goals as goal
 
-pub set_saves-requires-clause-saved : goal.set_saves-requires-clause-saved
-set_saves-requires-clause-saved c =
-    none_fits c.none.result.path c.args.self.now.workflow c.args.self.now.views.flow
-    (saves_seen record { key = c.args.snapshot.key; version = c.args.snapshot.version; content = c.args.snapshot.content; tick = c.args.snapshot.tick })
-    c.none.ensures
+pub set_saves-requires-clause-to_save : goal.set_saves-requires-clause-to_save
+set_saves-requires-clause-to_save c =
+    let j = c.args.self.now in
+    unknown_fits kind.Save (is_left j.workflow) c.unknown.result j.views.flow (saves_seen c.args.snapshot) c.unknown.ensures
 
 pub returns-else-is_some-clause-after : goal.returns-else-is_some-clause-after
 returns-else-is_some-clause-after c =

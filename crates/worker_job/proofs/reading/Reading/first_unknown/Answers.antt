@@ -1,13 +1,14 @@
+-- What is unknown is among what is left.
 use Rattle.std.proofs.Common.{◌∙◌}
 use Rattle.std.specs.Prelude.{Some, None}
 use Rattle.tree_state.specs.declared.kinds.WantKind.TheVariants as kind
 use Rattle.worker_job.specs.Readings as reads
-use Rattle.worker_job.proofs.Filing.{none_to_file}
+use Rattle.worker_job.proofs.Filing.{filing_among}
 use Rattle.worker_job.proofs.Wanted.{wanted, filing_only}
 use Rattle.worker_job.proofs.reading.Reading.first_unknown.Goals as goal
 
-pub returns-then-self : goal.returns-then-self
-returns-then-self c = none_to_file c.args.self.now c.requires.filed c.if-self.true
+pub first-requires : goal.first-requires
+first-requires c = filing_among c.args.self.now c.state.result.now c.state.ensures c.requires.to_file
 
 pub returns-in-None : goal.returns-in-None
 returns-in-None c =

@@ -1,11 +1,13 @@
--- The saves that the view has answer, and the mark is of them.
-use Rattle.std.proofs.Common.{◌≡◌, refl, subst}
+-- The saves that the view has answer, and what is left is by them.
+use Rattle.std.proofs.Common.{◌≡◌, subst}
 use Rattle.std.specs.Prelude.{IfOk}
 use Rattle.next_step.specs.Next.{Step}
 use Rattle.worker_job.specs.Readings as reads
 use Rattle.worker_job.specs.Readings.{step_told}
 use Rattle.law.specs.Justified.{wants_of}
-use Rattle.worker_job.specs.Inside.Saving.{NoneLeft}
+use Rattle.tree_state.specs.declared.kinds.WantKind.TheVariants as kind
+use Rattle.ahead.specs.Left.{AheadOf}
+use Rattle.worker_job.specs.Inside.Saving.{is_left}
 use Rattle.worker_job.proofs.Saving.{kept_fits}
 use Rattle.worker_job.proofs.Wanted.{saves_there}
 use Rattle.worker_job.proofs.reading.Reading.save_by_saves.Goals as goal
@@ -14,8 +16,8 @@ pub save_into-requires : goal.save_into-requires
 save_into-requires c =
     let r = c.args.self.now in
     record {
-      saved = kept_fits (λ ss. NoneLeft r.saved.now.path (reads.workflow r) ss (wants_of r.object.now)) (reads.views r).saves c.in-Some.saves.now
-          c.in-Some.field-0-1 c.in-Some.ensures (λ k viewed. c.requires.saved (reads.flow r) k refl viewed);
+      to_save = kept_fits (λ ss. AheadOf kind.Save (is_left (reads.workflow r) ss) r.to_save.now (wants_of r.object.now)) (reads.views r).saves c.in-Some.saves.now
+          c.in-Some.field-0-1 c.in-Some.ensures (λ k viewed. c.requires.to_save.fits k viewed);
     }
 
 pub returns-in-Some : goal.returns-in-Some
