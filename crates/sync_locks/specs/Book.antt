@@ -59,6 +59,14 @@ is_of_workflow workflow r = bytes_eq workflow r.key.workflow
 abbrev pub may_hold : Text → List Request → Bool
 may_hold workflow rs = has_many_holders rs || list_any (λ r. holds_now r && is_of_workflow workflow r) rs
 
+-- it is of this workflow, and for a path that passes
+abbrev pub is_where : Text → (Path → Bool) → Request → Bool
+is_where workflow test r = is_of_workflow workflow r && test r.key.path
+
+-- such a request holds its lock
+abbrev pub is_held_where : Text → (Path → Bool) → List Request → Bool
+is_held_where workflow test rs = list_any (λ r. holds_now r && is_where workflow test r) rs
+
 -- which lock a key asked for, and how its request stands
 abbrev pub standing : Request → LockId × LockState
 standing r = (r.lock, r.state)

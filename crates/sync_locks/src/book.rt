@@ -2,6 +2,7 @@
 
 use crate::asked::Asked;
 use crate::limit::limit_of;
+use crate::question::PathTest;
 use crate::refused::{FileRefused, NotHolding};
 use crate::requests::{Requests, new_state};
 use base_types::{Memory, Shared, Text, TryCopy};
@@ -40,11 +41,11 @@ impl Model for LockBook {
 }
 
 impl LockBook {
-    ghost use Rattle.std.specs.Prelude.{◌≡◌, ◌↔◌, ◌≤◌, IsOk, IsErrOf, IfOk, OnOk, OnErr, IsSome, option_map, false};
+    ghost use Rattle.std.specs.Prelude.{◌≡◌, ◌↔◌, ◌≤◌, IsOk, IsErrOf, IfOk, OnOk, OnErr, IsSome, MatchOption, option_map, true, false};
     ghost use Rattle.tree_types.specs.declared.path.Path.{Path as Place};
     ghost use Rattle.books.specs.Books as books;
     ghost use Rattle.books.specs.Laws.{IsWellKept};
-    ghost use Rattle.sync_locks.specs.Book.{unfilled, with_filed, with_freed, state_in, is_held, may_hold, key_by, standing_of};
+    ghost use Rattle.sync_locks.specs.Book.{unfilled, with_filed, with_freed, state_in, is_held, has_many_holders, may_hold, key_by, standing_of};
 
     /// The book without requests.
     pub fn new(limits: Limits) -> Result<LockBook, Memory>
@@ -120,6 +121,22 @@ impl LockBook {
         ensures none { result ≡ false → (path : Place) → is_held (key_by workflow.now path) self.now.requests ≡ false }
     {
         self.requests.may_hold(workflow)
+    }
+
+    /// A path of a workflow that holds its lock and passes a test. Where several do it is any of them. It looks at all that hold.
+    pub fn find_held<T: PathTest>(&self, workflow: &Text, test: &T) -> Option<&Path>
+        ensures { MatchOption result
+            ((path : Place) → is_held (key_by workflow.now path) self.now.requests ≡ true → T.accepts test.now path ≡ false)
+            (λ path. (is_held (key_by workflow.now path.now) self.now.requests ≡ true) × (T.accepts test.now path.now ≡ true)) }
+    {
+        self.requests.find_held(workflow, test)
+    }
+
+    /// Whether more requests hold their locks than are looked at one by one.
+    pub fn has_many_holders(&self) -> bool
+        ensures { result ≡ has_many_holders self.now.requests }
+    {
+        self.requests.has_many_holders()
     }
 
     /// Which lock a path of a workflow asked for, and how its request stands.

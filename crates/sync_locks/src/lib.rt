@@ -6,10 +6,12 @@ mod book;
 mod bucket;
 mod holder;
 mod limit;
+mod question;
 mod queue;
 mod ranking;
 mod refused;
 mod requests;
 
 pub use book::LockBook;
+pub use question::PathTest;
 pub use refused::{FileRefused, NotHolding};

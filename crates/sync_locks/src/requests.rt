@@ -1,12 +1,12 @@
 //! The requests of a book, and the looks for some of them.
 
-ghost use Rattle.std.specs.Prelude.{◌≡◌, ◌<◌, ◌≤◌, length, List, [], ◌∷◌, ◌++◌, IfOk, OnOk, OnErr, MatchOption, option_map, Some, nat_lt, slice_get, slice_set};
+ghost use Rattle.std.specs.Prelude.{◌≡◌, ◌<◌, ◌≤◌, length, List, [], ◌∷◌, ◌++◌, IfOk, OnOk, OnErr, MatchOption, option_map, Some, true, false, nat_lt, slice_get, slice_set};
 ghost use Rattle.std.specs.List.{find, list_any};
 ghost use Rattle.books.specs.declared.Request.{Request};
 ghost use Rattle.books.specs.Books as books;
 ghost use Rattle.books.specs.Laws as laws;
 ghost use Rattle.buckets.specs.Buckets.{buckets};
-ghost use Rattle.sync_locks.specs.Book.{state_in, is_held, is_of_workflow, has_many_holders, may_hold, key_by, standing_of};
+ghost use Rattle.sync_locks.specs.Book.{state_in, is_held, is_of_workflow, is_where, is_held_where, has_many_holders, may_hold, key_by, standing_of};
 ghost use Rattle.sync_locks.specs.Inside.Holders.{is_there, holding_with};
 ghost use Rattle.sync_locks.specs.Inside.Queues as queues;
 ghost use Rattle.sync_locks.specs.Inside.Rows as rows;
@@ -15,6 +15,7 @@ ghost use Rattle.sync_locks.specs.Inside.Tables.{places_of};
 use crate::asked::Asked;
 use crate::bucket::bucket_of;
 use crate::holder::{Holder, holder_at};
+use crate::question::PathTest;
 use crate::queue::{count_for, first_for, position_of, turn_for};
 use base_types::{Memory, Text, TryCopy};
 use books::{LockState, laws};
@@ -188,7 +189,7 @@ impl Requests {
     }
 
     // Whether more requests hold their locks than are looked at one by one.
-    fn has_many_holders(&self) -> bool
+    pub(crate) fn has_many_holders(&self) -> bool
         ensures { result ≡ has_many_holders self.now }
     {
         self.holding.len() > FEW
@@ -236,6 +237,43 @@ impl Requests {
         ensures { result ≡ may_hold workflow.now self.now }
     {
         self.has_many_holders() || self.has_of(self.holding.as_slice(), workflow)
+    }
+
+    // The path of the request at a place, where this is of a workflow and the path passes.
+    fn path_where<T: PathTest>(&self, place: usize, workflow: &Text, test: &T) -> Option<&Path>
+        ensures { MatchOption result
+            (rows.is_at (is_where workflow.now (T.accepts test.now)) self.now place ≡ false)
+            (λ path. (r : Request) × (slice_get self.now place ≡ Some r) × (r.key ≡ key_by workflow.now path.now)
+            × (T.accepts test.now path.now ≡ true)) }
+    {
+        match self.asked.get(place) {
+            None => None,
+            Some(asked) => {
+                if *workflow != asked.key.workflow {
+                    return None;
+                }
+                if test.accepts(&asked.key.path) {
+                    Some(&asked.key.path)
+                } else {
+                    None
+                }
+            }
+        }
+    }
+
+    // A path of a workflow that passes and holds its lock. All that hold are looked at.
+    pub(crate) fn find_held<T: PathTest>(&self, workflow: &Text, test: &T) -> Option<&Path>
+        requires { laws.KeysDiffer self.now }
+        ensures { MatchOption result
+            (is_held_where workflow.now (T.accepts test.now) self.now ≡ false)
+            (λ path. (is_held (key_by workflow.now path.now) self.now ≡ true) × (T.accepts test.now path.now ≡ true)) }
+    {
+        for holder in &self.holding {
+            if let Some(path) = self.path_where(holder.place as usize, workflow, test) {
+                return Some(path);
+            }
+        }
+        None
     }
 
     // Which lock the key of these parts asked for, and how its request stands.
