@@ -20,7 +20,7 @@ module _ {A B : Type 0} where
   first_found give (x ∷ xs) = first_by give x xs (give x) refl (first_found give xs)
 
   -- where none gives anything
-  none_by : (give : A → Option B) (x : A) (xs : List A) (o : Option B) → o ≡ None → first_given give xs ≡ None → head (cons_option o (filter_map give xs)) ≡ None
+  pub none_by : (give : A → Option B) (x : A) (xs : List A) (o : Option B) → o ≡ None → first_given give xs ≡ None → head (cons_option o (filter_map give xs)) ≡ None
   none_by give x xs o e rest = ap (λ o. head (cons_option o (filter_map give xs))) e ∙ rest
 
   pub none_first : (give : A → Option B) (xs : List A) → ((x : A) → give x ≡ None) → first_given give xs ≡ None

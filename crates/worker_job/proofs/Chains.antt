@@ -2,25 +2,18 @@
 use Rattle.std.proofs.Common.{◌≡◌, Bool, true, false, ◌&&◌, ◌||◌, cond, List, [], ◌∷◌, true≢false, refl, sym, ◌∙◌, ap}
 use Rattle.std.specs.Prelude.{ℕ, bytes_eq, Option, Some, None, option_map}
 use Rattle.std.specs.List.{list_any}
-use Rattle.tree_types.specs.declared.path.Path.{Path}
 use Rattle.tree_types.specs.declared.phase.Phase.{Phase}
 use Rattle.tree_types.specs.declared.phase.Phase.TheVariants as phase
 use Rattle.tree_types.specs.declared.fact.Fact.TheVariants as fact
 use Rattle.tree_types.specs.declared.node.Kind.{Kind}
 use Rattle.tree_types.specs.declared.node.Kind.TheVariants as kind
 use Rattle.tree_types.specs.declared.node.Node.{Node}
-use Rattle.tree_types.specs.declared.want.Want.{Want}
-use Rattle.tree_types.specs.declared.want.Want.TheVariants as want
-use Rattle.tree_types.specs.Phases.{fulfilled}
 use Rattle.meaning.specs.Answers.{Sels, first_of, armed_in}
 use Rattle.law.specs.Documents.{Text, Command, Resume, Resubmit, Document}
 use Rattle.law.specs.Contents.{Flow, Book, Content, flow_in}
-use Rattle.law.specs.Justified.{tree_of, wants_of, key}
+use Rattle.law.specs.Justified.{tree_of}
 use Rattle.object_store.specs.declared.snapshot.Snapshot.{Snapshot}
-use Rattle.law.specs.Due.{record_fact, release}
-use Rattle.books.specs.declared.Request.{Request}
-use Rattle.sync_locks.proofs.Holders.{none_may}
-use Rattle.sync_locks.specs.Book as locks
+use Rattle.law.specs.Due.{record_fact}
 use Rattle.next_step.specs.Views.{Seen, Views}
 use Rattle.next_step.specs.Next as next
 use Rattle.next_step.specs.Next.{Step, first_step, worker_next}
@@ -76,44 +69,6 @@ module _ (r : Reading) where
 
   pub none_resumes : NoneResumes → None ≡ reads.first_node r (reads.resuming r)
   none_resumes e = sym (none_first (reads.resuming r) (tree_of r.object.now) (λ n. resuming_none e n n.kind n.phase))
-
-  -- ---- locks, where no path holds one
-
-  unheld_in : (o : Option (Seen Book)) → reads.passes (locks.may_hold (reads.workflow r)) o ≡ false → (p : Path) → locks.holds (next.request_in (reads.law r) (reads.workflow r) (reads.views r) (reads.flow r) p o) ≡ false
-  unheld_in None e p = refl
-  unheld_in (Some b) e p = none_may (reads.workflow r) p b.content.requests e
-
-  abbrev pub NoneMayHold : Type 0
-  NoneMayHold = reads.may_hold r ≡ false
-
-  unheld_by : (p : Path) (o : Option Request) → locks.holds o ≡ false → next.release_held (reads.law r) (reads.workflow r) (reads.views r) (reads.flow r) p o ≡ None
-  unheld_by p None e = refl
-  unheld_by p (Some q) e = ap (λ (b : Bool). cond b (Some (release q.lock (key (reads.workflow r) p))) None) e
-
-  unheld : NoneMayHold → (p : Path) → reads.release_held r p ≡ None
-  unheld h p = unheld_by p (reads.request r p) (unheld_in (reads.views r).book h p)
-
-  unheld_node : NoneMayHold → (q : Sels) (p : Path) → next.release_node (reads.law r) (reads.workflow r) (reads.views r) (reads.flow r) q p ≡ None
-  unheld_node h [] p = refl
-  unheld_node h (t ∷ q) p = unheld h p
-
-  releasing_none : NoneMayHold → (n : Node) (b : Bool) → cond b (next.release_node (reads.law r) (reads.workflow r) (reads.views r) (reads.flow r) n.path.sels n.path) None ≡ None
-  releasing_none h n true = unheld_node h n.path.sels n.path
-  releasing_none h n false = refl
-
-  pub none_releases : NoneMayHold → None ≡ reads.first_node r (reads.releasing r)
-  none_releases h = sym (none_first (reads.releasing r) (tree_of r.object.now) (λ n. releasing_none h n (fulfilled n.phase)))
-
-  ungranted_by : (p : Path) (o : Option Request) → locks.holds o ≡ false → next.if_holding (reads.law r) (reads.workflow r) (reads.views r) (reads.flow r) p o ≡ None
-  ungranted_by p None e = refl
-  ungranted_by p (Some q) e = ap (λ (b : Bool). cond b (Some (record_fact (fact.Granted p))) None) e
-
-  granting_none : NoneMayHold → (a : Want) → reads.granting r a ≡ None
-  granting_none h (want.Lock p l) = ungranted_by p (reads.request r p) (unheld_in (reads.views r).book h p)
-  granting_none h _ = refl
-
-  pub none_granted : NoneMayHold → None ≡ reads.asked r (reads.granting r)
-  none_granted h = sym (none_first (reads.granting r) (wants_of r.object.now) (granting_none h))
 
 -- ---- by the view of the workflow
 

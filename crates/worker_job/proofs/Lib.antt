@@ -11,3 +11,4 @@ mod Marked
 mod Saving
 mod Lasting
 mod Filing
+mod Holding

@@ -60,16 +60,21 @@ module _ {B : Type 0} (m : Manifest) (J : Facts) (state : Workflow) where
       ∙ sym (first_found give (tree m J))
 
 module _ (m : Manifest) (J : Facts) (state : Workflow) where
-  -- the name of a path's node
+  -- a path's node
+  pub node_found :
+      (q p : Sels) (o : Option Node) → state ≡ record { manifest = m; facts = J } → q ≡ p →
+      o ≡ find (λ n. sels_eq n.path.sels q) (tree state.manifest state.facts) → o ≡ find (is_at p) (tree m J)
+  node_found q p o same path found =
+      found
+      ∙ ap (λ (s : Workflow). find (λ n. sels_eq n.path.sels q) (tree s.manifest s.facts)) same
+      ∙ ap (λ (p : Sels). find (is_at p) (tree m J)) path
+
+  -- and its name
   pub named :
       (q p : Sels) (o : Option Node) → state ≡ record { manifest = m; facts = J } → q ≡ p →
       o ≡ find (λ n. sels_eq n.path.sels q) (tree state.manifest state.facts) →
       option_map (λ (n : Node). n.name) o ≡ option_map (λ (n : Node). n.name) (find (is_at p) (tree m J))
-  named q p o same path found =
-      ap (option_map (λ (n : Node). n.name))
-      (found
-      ∙ ap (λ (s : Workflow). find (λ n. sels_eq n.path.sels q) (tree s.manifest s.facts)) same
-      ∙ ap (λ (p : Sels). find (is_at p) (tree m J)) path)
+  named q p o same path found = ap (option_map (λ (n : Node). n.name)) (node_found q p o same path found)
 
 -- ---- which kinds of wants give something
 

@@ -1,5 +1,6 @@
 -- What speaks only of private code.
 pub mod Filing
+pub mod Held
 pub mod Left
 pub mod Marks
 pub mod Saving

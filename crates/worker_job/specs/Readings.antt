@@ -78,9 +78,6 @@ module _ (r : Reading) where
   abbrev pub is_held : Path → Bool
   is_held p = locks.holds (request p)
 
-  abbrev pub may_hold : Bool
-  may_hold = passes (locks.may_hold workflow) views.book
-
   abbrev pub pod_of : Path → Option PodObject
   pod_of p = next.pod_at law workflow views flow p.sels
 

@@ -2,6 +2,7 @@
 #![tactic(auto)]
 
 mod fresh;
+mod held;
 mod job;
 mod marks;
 mod matter;

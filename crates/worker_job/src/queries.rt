@@ -15,6 +15,7 @@ ghost use Rattle.worker_job.specs.Inside.Marks.{IsMarked};
 ghost use Rattle.worker_job.specs.Inside.Saving.{is_left};
 ghost use Rattle.worker_job.specs.Readings as reads;
 
+use crate::held::{Held, Standing};
 use crate::marks::{Read, Sought};
 use crate::reading::Reading;
 use base_types::{Shared, Text};
@@ -140,8 +141,14 @@ impl<'a> Reading<'a> {
         ensures { option_map (λ p. record_fact (fact.Granted p.now)) result
             ≡ reads.asked self.now (reads.granting self.now) }
     {
-        if !self.may_hold() {
-            return None;
+        match self.held_paths(Standing::Waiting) {
+            Held::Nothing => return None,
+            Held::Alone(path) => {
+                if path.sels.len() > 1 {
+                    return Some(path);
+                }
+            }
+            Held::Unknown => {}
         }
         let test = Holding { reading: *self };
         match self.object.state().find_want(WantKind::Lock, &test) {
@@ -232,8 +239,17 @@ impl<'a> Reading<'a> {
         ensures { option_map (λ k. release k.0.now (justified.key (reads.workflow self.now) k.1.now)) result
             ≡ reads.first_node self.now (reads.releasing self.now) }
     {
-        if !self.may_hold() {
-            return None;
+        match self.held_paths(Standing::Over) {
+            Held::Nothing => return None,
+            Held::Alone(path) => {
+                if !path.sels.is_empty() {
+                    return match self.held(path) {
+                        None => None,
+                        Some(lock) => Some((lock, path)),
+                    };
+                }
+            }
+            Held::Unknown => {}
         }
         let test = Kept { reading: *self };
         match self.object.state().find_node(&test) {

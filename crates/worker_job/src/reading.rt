@@ -120,7 +120,7 @@ impl<'a> Reading<'a> {
     }
 
     // Which lock a path asked for, and how its request stands, by the view of the book.
-    fn standing(&self, path: &Path) -> Option<(&LockId, LockState)>
+    pub(crate) fn standing(&self, path: &Path) -> Option<(&LockId, LockState)>
         ensures { option_map (λ s. (s.0.now, s.1)) result ≡ reads.stands self.now path.now }
     {
         match self.job.locks() {
@@ -136,16 +136,6 @@ impl<'a> Reading<'a> {
         match self.job.locks() {
             None => false,
             Some(book) => book.holds(self.job.workflow(), path),
-        }
-    }
-
-    // Whether some path of this workflow may hold its lock, by the view of the book. Where none may, none does.
-    pub(crate) fn may_hold(&self) -> bool
-        ensures { result ≡ reads.may_hold self.now }
-    {
-        match self.job.locks() {
-            None => false,
-            Some(book) => book.may_hold(self.job.workflow()),
         }
     }
 

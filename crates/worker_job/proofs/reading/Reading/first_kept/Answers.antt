@@ -1,20 +1,32 @@
-use Rattle.std.proofs.Common.{sym, ◌∙◌}
+use Rattle.std.proofs.Common.{true≢false, sym, ◌∙◌}
 use Rattle.std.specs.Prelude.{Some, None}
 use Rattle.worker_job.specs.Readings as reads
 use Rattle.worker_job.proofs.Wanted.{noded}
-use Rattle.worker_job.proofs.Chains.{none_releases}
+use Rattle.worker_job.proofs.Holding.{none_released, one_released}
 use Rattle.worker_job.proofs.reading.Reading.first_kept.Goals as goal
+
+pub returns-in-None-find_node : goal.returns-in-None-find_node
+returns-in-None-find_node c =
+    let r = c.args.self.now in
+    noded r.object.now.manifest r.object.now.journal c.state.result.now (reads.releasing r) None c.state.ensures c.in-None-find_node.ensures
+
+pub returns-in-Some-find_node : goal.returns-in-Some-find_node
+returns-in-Some-find_node c =
+    let r = c.args.self.now in
+    c.kept.ensures
+    ∙ noded r.object.now.manifest r.object.now.journal c.state.result.now (reads.releasing r) (Some c.in-Some-find_node.node.now) c.state.ensures c.in-Some-find_node.ensures
+
+pub returns-in-Nothing : goal.returns-in-Nothing
+returns-in-Nothing c = none_released c.args.self.now c.in-Nothing.ensures
 
 pub returns-in-None : goal.returns-in-None
 returns-in-None c =
-    let r = c.args.self.now in
-    noded r.object.now.manifest r.object.now.journal c.state.result.now (reads.releasing r) None c.state.ensures c.in-None.ensures
+    c.in-None.ensures
+    ∙ one_released c.args.self.now c.in-Alone.path.now c.in-Alone.ensures.0 c.in-Alone.ensures.1 c.in-Alone.ensures.2
+    (λ e. true≢false (sym (c.is_empty.ensures.1 e) ∙ c.if-not-is_empty.true))
 
 pub returns-in-Some : goal.returns-in-Some
 returns-in-Some c =
-    let r = c.args.self.now in
-    c.kept.ensures
-    ∙ noded r.object.now.manifest r.object.now.journal c.state.result.now (reads.releasing r) (Some c.in-Some.node.now) c.state.ensures c.in-Some.ensures
-
-pub returns-then-not-may_hold : goal.returns-then-not-may_hold
-returns-then-not-may_hold c = none_releases c.args.self.now (sym c.if-not-may_hold.ensures)
+    c.in-Some.ensures
+    ∙ one_released c.args.self.now c.in-Alone.path.now c.in-Alone.ensures.0 c.in-Alone.ensures.1 c.in-Alone.ensures.2
+    (λ e. true≢false (sym (c.is_empty.ensures.1 e) ∙ c.if-not-is_empty.true))
