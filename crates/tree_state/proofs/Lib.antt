@@ -1,5 +1,6 @@
 pub mod Counts
 mod Kids
+mod Alone
 mod Firsts
 pub mod OfKind
 pub mod Positions

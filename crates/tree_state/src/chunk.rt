@@ -23,7 +23,7 @@ use std::sync::Arc;
 use tree_types::{Node, Path, Phase, Want};
 
 // How many kids a chunk has.
-const ROOM: usize = 64;
+const ROOM: usize = 32;
 
 /// Some of what stands below a node, in tree order, which versions of the node share.
 #[cycle(state)]
@@ -76,6 +76,16 @@ impl Chunk {
             kids: Vec::new(alloc),
             sum: Sum::nothing(),
         }
+    }
+
+    // Nothing, with room for so many kids.
+    fn with_room(alloc: Global, room: usize) -> Result<Chunk, Memory>
+        ensures { IfOk result (λ chunk. chunk ≡ nothing) }
+    {
+        Ok(Chunk {
+            kids: Vec::with_capacity(alloc, room)?,
+            sum: Sum::nothing(),
+        })
     }
 
     /// The allocator that it is on.
@@ -139,7 +149,7 @@ impl Chunk {
             then_parts chunk (replaced_by rest left.new call.new)
             ≡ replaced_by (then_parts self.now rest) left.old call.old) }
     {
-        let mut chunk = Chunk::new(self.allocator());
+        let mut chunk = Chunk::with_room(self.allocator(), self.kids.len())?;
         for kid in &self.kids {
             chunk.add(kid.or_replaced(left, call)?)?;
         }
@@ -150,6 +160,16 @@ impl Chunk {
     pub(crate) fn call_at(&self, position: usize) -> Option<&State>
         ensures { option_copied result ≡ call_at self.now position }
     {
+        // Mostly each kid is a call.
+        if self.sum.calls as usize == self.kids.len() {
+            return match self.kids.get(position) {
+                None => None,
+                Some(kid) => match &kid.state {
+                    None => None,
+                    Some(state) => Some(state),
+                },
+            };
+        }
         let mut left = position;
         for kid in &self.kids {
             if let Some(state) = &kid.state {
