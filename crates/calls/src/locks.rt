@@ -4,7 +4,7 @@ use base_types::{Memory, Text, TryCopy};
 use books::LockState;
 use history_text::{HistoryRefused, read_history};
 use std::alloc::Global;
-use sync_locks::LockBook;
+use sync_locks::{LockBook, ReleaseRefused};
 use tree_types::{Entries, Entry, HolderKey, Limit, Limits, LockId};
 
 const LOCK: &str = "semaphore/cm/k";
@@ -73,7 +73,11 @@ fn take(book: &mut LockBook, entry: &Entry) -> Result<bool, Memory> {
         Entry::File { lock, key, rank } => Ok(
             book.file(lock.copy()?, key.copy()?, rank.copy()?).is_ok(),
         ),
-        Entry::Release { key, .. } => Ok(book.release(key).is_ok()),
+        Entry::Release { key, .. } => match book.release(key) {
+            Ok(()) => Ok(true),
+            Err(ReleaseRefused::NotHolding) => Ok(false),
+            Err(ReleaseRefused::Memory) => Err(Memory),
+        },
         _ => Ok(false),
     }
 }

@@ -9,8 +9,7 @@ use Rattle.books.specs.declared.LockState.{LockState}
 use Rattle.books.specs.declared.LockState.TheVariants.{Holding}
 use Rattle.books.specs.Books.{key_eq, change_first, request_of}
 use Rattle.books.specs.Laws.{is_of}
-use Rattle.sync_locks.specs.Book.{state_in}
-use Rattle.sync_locks.specs.Inside.Rows.{place}
+use Rattle.sync_locks.specs.Book.{state_in, place}
 use Rattle.sync_locks.proofs.Places.{At, at_place}
 
 pub unchanged : (test : Request → Bool) (f : Request → Request) (rs : List Request) → list_any test rs ≡ false → change_first test f rs ≡ rs

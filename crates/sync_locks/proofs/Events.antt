@@ -11,8 +11,8 @@ use Rattle.books.specs.declared.LockState.TheVariants.{Holding}
 use Rattle.books.specs.Books.{limit_of, holders, has_room, request, filed, freed, released, change_first, request_of}
 use Rattle.books.specs.Laws.{is_of, IsWellKept, FilesOnce, FilesWellKept, FreesWellKept, ReleasesOnce, with_new, passed_on}
 use Rattle.sync_locks.specs.Inside.Rows as rows
-use Rattle.sync_locks.specs.Book.{state_in}
-use Rattle.sync_locks.specs.Inside.Rows.{place, state_by}
+use Rattle.sync_locks.specs.Book.{state_in, place}
+use Rattle.sync_locks.specs.Inside.Rows.{state_by}
 use Rattle.sync_locks.proofs.Places.{At, at_place}
 use Rattle.sync_locks.proofs.Changes.{stands_at, changed_at, request_at, request_placed, holder_there}
 

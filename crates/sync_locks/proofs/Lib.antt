@@ -1,4 +1,5 @@
 pub mod Keys
+mod Pieced
 pub mod Stands
 pub mod Tabled
 pub mod Sums
@@ -6,6 +7,7 @@ pub mod Bucketed
 pub mod Ranked
 pub mod Places
 pub mod Changes
+mod Sought
 pub mod Turns
 pub mod Lines
 pub mod Kept

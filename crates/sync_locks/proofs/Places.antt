@@ -2,7 +2,7 @@
 use Rattle.std.proofs.Common.{◌≡◌, ℕ, suc, Bool, true, false, cond, ◌||◌, List, [], ◌∷◌, ◌++◌, length, Option, Some, None, option_map, refl, ◌∙◌, ap, ap₂}
 use Rattle.std.specs.List.{list_any}
 use Rattle.books.specs.declared.Request.{Request}
-use Rattle.sync_locks.specs.Inside.Rows.{place}
+use Rattle.sync_locks.specs.Book.{place}
 
 -- what stands at a place
 pub record At (test : Request → Bool) (rs : List Request) (i : ℕ) : Type 0 where

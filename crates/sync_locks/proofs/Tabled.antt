@@ -12,7 +12,8 @@ use Rattle.books.specs.Laws.{is_of}
 use Rattle.sync_locks.specs.declared.asked.Asked.{Asked}
 use Rattle.buckets.specs.Buckets.{buckets}
 use Rattle.sync_locks.specs.Inside.Buckets.{bucket_of}
-use Rattle.sync_locks.specs.Inside.Rows.{request_of, requests_in, is_at, place}
+use Rattle.sync_locks.specs.Book.{place}
+use Rattle.sync_locks.specs.Inside.Rows.{request_of, requests_in, is_at}
 use Rattle.sync_locks.specs.Inside.Tables.{belongs, places_from, places_of, IsTabled}
 use Rattle.sync_locks.proofs.Keys.{belongs_there}
 use Rattle.sync_locks.proofs.Stands.{requests_more, some_same, there}

@@ -1,5 +1,5 @@
 -- What contracts see of a lock book, and what they say of it.
-use Rattle.std.specs.Prelude.{ℕ, Bool, false, ◌&&◌, ◌||◌, nat_lt, bytes_eq, List, [], Option, Some, None, option_map}
+use Rattle.std.specs.Prelude.{ℕ, suc, Bool, false, ◌&&◌, ◌||◌, cond, nat_lt, bytes_eq, List, [], ◌∷◌, Option, Some, None, option_map, slice_get}
 use Rattle.std.specs.List.{list_any}
 use Rattle.tree_types.specs.declared.path.Path.{Path}
 use Rattle.tree_types.specs.declared.path.LockId.{LockId}
@@ -9,6 +9,7 @@ use Rattle.tree_types.specs.declared.entry.Rank.{Rank}
 use Rattle.books.specs.declared.Request.{Request}
 use Rattle.books.specs.declared.LockState.{LockState}
 use Rattle.books.specs.Books.{Text, is_holding, count, filed, freed, request_of}
+use Rattle.books.specs.Laws.{is_of}
 
 -- the limits, and the requests in order of filing
 pub record Book : Type 0 where
@@ -73,3 +74,21 @@ standing r = (r.lock, r.state)
 
 abbrev pub standing_of : HolderKey → List Request → Option (LockId × LockState)
 standing_of key rs = option_map standing (request_of rs key)
+
+-- where the first request that passes stands in the order of filing, from 0
+abbrev pub place : (Request → Bool) → List Request → Option ℕ
+place test [] = None
+place test (r ∷ rs) = cond (test r) (Some 0) (option_map suc (place test rs))
+
+-- where the request of a key stands, if it has one
+abbrev pub place_of : HolderKey → List Request → Option ℕ
+place_of key rs = place (is_of key) rs
+
+-- there is a request, and it is of this key
+abbrev pub is_by : HolderKey → Option Request → Bool
+is_by key None = false
+is_by key (Some r) = is_of key r
+
+-- the request at a place is of this key
+abbrev pub is_filed_at : ℕ → HolderKey → List Request → Bool
+is_filed_at place key rs = is_by key (slice_get rs place)

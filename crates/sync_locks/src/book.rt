@@ -3,7 +3,7 @@
 use crate::asked::Asked;
 use crate::limit::limit_of;
 use crate::question::PathTest;
-use crate::refused::{FileRefused, NotHolding};
+use crate::refused::{FileRefused, ReleaseRefused};
 use crate::requests::{Requests, new_state};
 use base_types::{Memory, Shared, Text, TryCopy};
 use books::{LockState, laws};
@@ -41,11 +41,11 @@ impl Model for LockBook {
 }
 
 impl LockBook {
-    ghost use Rattle.std.specs.Prelude.{◌≡◌, ◌↔◌, ◌≤◌, IsOk, IsErrOf, IfOk, OnOk, OnErr, IsSome, MatchOption, option_map, true, false};
+    ghost use Rattle.std.specs.Prelude.{◌≡◌, ◌↔◌, ◌≤◌, IsErrOf, IfOk, OnOk, OnErr, IsSome, IsTrue, MatchOption, option_map, true, false};
     ghost use Rattle.tree_types.specs.declared.path.Path.{Path as Place};
     ghost use Rattle.books.specs.Books as books;
     ghost use Rattle.books.specs.Laws.{IsWellKept};
-    ghost use Rattle.sync_locks.specs.Book.{unfilled, with_filed, with_freed, state_in, is_held, has_many_holders, may_hold, key_by, standing_of};
+    ghost use Rattle.sync_locks.specs.Book.{unfilled, with_filed, with_freed, state_in, is_held, has_many_holders, may_hold, key_by, standing_of, place_of, is_filed_at};
 
     /// The book without requests.
     pub fn new(limits: Limits) -> Result<LockBook, Memory>
@@ -84,17 +84,18 @@ impl LockBook {
     }
 
     /// Releases the lock that a key holds. It goes to the first of its waiters.
-    pub fn release(&mut self, key: &HolderKey) -> Result<(), NotHolding>
-        ensures held { IsOk result ↔ (state_in key.now self.old.requests ≡ Some LockState.Holding) }
+    pub fn release(&mut self, key: &HolderKey) -> Result<(), ReleaseRefused>
+        ensures not_holding { IsErrOf result ReleaseRefused.NotHolding
+            ↔ ¬ (state_in key.now self.old.requests ≡ Some LockState.Holding) }
         ensures ok { OnOk result (self.new ≡ with_freed key.now self.old) }
         ensures err { OnErr result (self.new ≡ self.old) }
     {
         laws::stays_well_kept();
         laws::releases_once();
         match self.requests.holder_of(key) {
-            None => Err(NotHolding),
+            None => Err(ReleaseRefused::NotHolding),
             Some(place) => {
-                self.requests.release(place);
+                self.requests.release(place)?;
                 Ok(())
             }
         }
@@ -145,6 +146,21 @@ impl LockBook {
             ≡ standing_of (key_by workflow.now path.now) self.now.requests }
     {
         self.requests.standing_of(workflow, path)
+    }
+
+    /// Where the request of a path of a workflow stands in the order of filing, from 0.
+    pub fn place(&self, workflow: &Text, path: &Path) -> Option<usize>
+        ensures { result ≡ place_of (key_by workflow.now path.now) self.now.requests }
+    {
+        self.requests.find(workflow, path)
+    }
+
+    /// Whether the request at a place in the order of filing is of a path of a workflow. It looks at that one alone.
+    pub fn is_filed_at(&self, place: usize, workflow: &Text, path: &Path) -> bool
+        ensures is { result ≡ is_filed_at place (key_by workflow.now path.now) self.now.requests }
+        ensures known { IsTrue result → IsSome (state_in (key_by workflow.now path.now) self.now.requests) }
+    {
+        self.requests.is_by(place, workflow, path)
     }
 
     /// How many hold a lock.

@@ -6,6 +6,7 @@ mod book;
 mod bucket;
 mod holder;
 mod limit;
+mod pieces;
 mod question;
 mod queue;
 mod ranking;
@@ -14,4 +15,4 @@ mod requests;
 
 pub use book::LockBook;
 pub use question::PathTest;
-pub use refused::{FileRefused, NotHolding};
+pub use refused::{FileRefused, ReleaseRefused};

@@ -7,6 +7,7 @@ ghost use Rattle.sync_locks.specs.Inside.Queues as queues;
 
 use crate::asked::Asked;
 use crate::holder::Holder;
+use crate::pieces::Pieces;
 use crate::ranking::is_before;
 use base_types::Shared;
 use sharing::SharedList;
@@ -35,16 +36,21 @@ pub(crate) fn count_for(asked: &SharedList<Asked>, holders: &[Holder], lock: &Lo
     count
 }
 
-// Which of these places is the first for a lock.
-pub(crate) fn first_for(asked: &SharedList<Asked>, places: &[u32], lock: &LockId) -> Option<usize>
+// Which of those that wait is the first for a lock.
+pub(crate) fn first_for(
+    asked: &SharedList<Asked>,
+    waiting: &Pieces<u32>,
+    lock: &LockId,
+) -> Option<usize>
     ensures { MatchOption result
-        (AllWithin (λ p. queues.is_for lock.now.text asked.now p ≡ false) places.now 0 (length places.now))
-        (λ turn. (turn < length places.now)
-        × HoldsAt (λ p. queues.is_for lock.now.text asked.now p ≡ true) places.now turn
-        × AllWithin (λ p. queues.is_for lock.now.text asked.now p ≡ false) places.now 0 turn) }
+        (AllWithin (λ p. queues.is_for lock.now.text asked.now p ≡ false) waiting.now 0 (length waiting.now))
+        (λ turn. (turn < length waiting.now)
+        × HoldsAt (λ p. queues.is_for lock.now.text asked.now p ≡ true) waiting.now turn
+        × AllWithin (λ p. queues.is_for lock.now.text asked.now p ≡ false) waiting.now 0 turn) }
 {
-    for turn in 0..places.len() {
-        if is_for(asked, places[turn] as usize, lock) {
+    for turn in 0..waiting.len() {
+        let place = waiting.get(turn).unwrap();
+        if is_for(asked, place as usize, lock) {
             return Some(turn);
         }
     }
@@ -76,15 +82,26 @@ fn overtakes(rank: &Shared<Rank>, asked: &SharedList<Asked>, place: usize) -> bo
 }
 
 // The turn of a new waiter, before all that rank behind it.
-pub(crate) fn turn_for(asked: &SharedList<Asked>, places: &[u32], rank: &Shared<Rank>) -> usize
-    ensures bound { result ≤ length places.now }
-    ensures parted { IsPartitionedBy (λ p. not (queues.overtakes rank.now asked.now p)) places.now
+pub(crate) fn turn_for(
+    asked: &SharedList<Asked>,
+    waiting: &Pieces<u32>,
+    rank: &Shared<Rank>,
+) -> usize
+    ensures bound { result ≤ length waiting.now }
+    ensures parted { IsPartitionedBy (λ p. not (queues.overtakes rank.now asked.now p)) waiting.now
         → IsPartitionPoint (λ p. not (queues.overtakes rank.now asked.now p) ≡ true)
-        (λ p. not (queues.overtakes rank.now asked.now p) ≡ false) places.now result }
+        (λ p. not (queues.overtakes rank.now asked.now p) ≡ false) waiting.now result }
 {
-    places.partition_point(
-        |place: &u32| -> bool
-            ensures { result ≡ not (queues.overtakes rank.entry.now asked.entry.now place.now) }
-        { !overtakes(rank, asked, *place as usize) },
-    )
+    let mut low = 0;
+    let mut high = waiting.len();
+    while low < high {
+        let middle = low + (high - low) / 2;
+        let place = waiting.get(middle).unwrap();
+        if overtakes(rank, asked, place as usize) {
+            high = middle;
+        } else {
+            low = middle + 1;
+        }
+    }
+    low
 }

@@ -2,6 +2,7 @@
 
 ghost use Rattle.std.specs.Prelude.{◌≡◌};
 ghost use Rattle.sync_locks.specs.declared.refused.FileRefused.TheVariants as refused;
+ghost use Rattle.sync_locks.specs.declared.refused.ReleaseRefused.TheVariants as release_refused;
 
 use base_types as base;
 use std::alloc::{AllocError, AllocFailed};
@@ -25,7 +26,19 @@ impl From<base::Memory> for FileRefused {
     }
 }
 
-/// The key holds no lock, so none is released.
+/// Why no lock is released.
 #[derive(Clone, Copy, Debug, PartialEq, Eq, Error)]
-#[error("the key holds no lock")]
-pub struct NotHolding;
+pub enum ReleaseRefused {
+    #[error("the key holds no lock")]
+    NotHolding,
+    #[error("out of memory")]
+    Memory,
+}
+
+impl From<base::Memory> for ReleaseRefused {
+    ghost from_gives = { λ _ e. e ≡ release_refused.Memory };
+
+    fn from(_: base::Memory) -> Self {
+        ReleaseRefused::Memory
+    }
+}

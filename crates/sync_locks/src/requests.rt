@@ -7,6 +7,7 @@ ghost use Rattle.books.specs.Books as books;
 ghost use Rattle.books.specs.Laws as laws;
 ghost use Rattle.buckets.specs.Buckets.{buckets};
 ghost use Rattle.sync_locks.specs.Book.{state_in, is_held, is_of_workflow, is_where, is_held_where, has_many_holders, may_hold, key_by, standing_of};
+ghost use Rattle.sync_locks.specs.Book as book;
 ghost use Rattle.sync_locks.specs.Inside.Holders.{is_there, holding_with};
 ghost use Rattle.sync_locks.specs.Inside.Queues as queues;
 ghost use Rattle.sync_locks.specs.Inside.Rows as rows;
@@ -15,6 +16,7 @@ ghost use Rattle.sync_locks.specs.Inside.Tables.{places_of};
 use crate::asked::Asked;
 use crate::bucket::bucket_of;
 use crate::holder::{Holder, holder_at};
+use crate::pieces::Pieces;
 use crate::question::PathTest;
 use crate::queue::{count_for, first_for, position_of, turn_for};
 use base_types::{Memory, Text, TryCopy};
@@ -28,19 +30,23 @@ use tree_types::{HolderKey, LockId, Path};
 // So many holders at most are looked at one by one, which costs less than to look for one request.
 const FEW: usize = 32;
 
+// How many states and places a piece of their lists has at most: somewhat less than a thousand bytes.
+const STATES: usize = 960;
+
+const WAITING: usize = 240;
+
 // The places of the requests whose keys belong to one bucket, in order.
 type Bucket = Row<u64>;
 
 // The requests in order of filing, their places by keys, those that hold a lock, in any order, and the places of those that
-// wait, in the order in which they go. Copies share what was asked for and the table. The rest are plain lists, so that a
-// release needs no memory. Each copy moves them, so places take 32 bits there.
+// wait, in the order in which they go. Copies share all but those that hold, of which they move eight bytes each.
 #[derive(Drop)]
 pub(crate) struct Requests {
     asked: SharedList<Asked>,
-    states: Vec<LockState>,
+    states: Pieces<LockState>,
     table: SharedList<Bucket>,
     holding: Vec<Holder>,
-    waiting: Vec<u32>,
+    waiting: Pieces<u32>,
 }
 
 impl Model for Requests {
@@ -51,9 +57,9 @@ impl Model for Requests {
 
     ghost Value = { List Request };
 
-    ghost view = { λ all. requests_in all.asked all.states.items };
+    ghost view = { λ all. requests_in all.asked all.states };
 
-    ghost invariant = { λ all. IsStored all.asked all.states.items all.table all.holding.items all.waiting.items };
+    ghost invariant = { λ all. IsStored all.asked all.states all.table all.holding.items all.waiting };
 }
 
 impl Requests {
@@ -63,10 +69,10 @@ impl Requests {
         let empty = Row::new(alloc)?;
         Ok(Requests {
             asked: SharedList::new(alloc)?,
-            states: Vec::new(alloc),
+            states: Pieces::new(alloc, STATES)?,
             table: SharedList::filled(alloc, empty, BUCKETS)?,
             holding: Vec::new(alloc),
-            waiting: Vec::new(alloc),
+            waiting: Pieces::new(alloc, WAITING)?,
         })
     }
 
@@ -76,10 +82,10 @@ impl Requests {
     {
         Ok(Requests {
             asked: self.asked.share()?,
-            states: copied(&self.states)?,
+            states: self.states.share()?,
             table: self.table.share()?,
             holding: copied(&self.holding)?,
-            waiting: copied(&self.waiting)?,
+            waiting: self.waiting.share()?,
         })
     }
 
@@ -91,19 +97,21 @@ impl Requests {
         laws::orders_ranks();
         let place = short(self.len())?;
         let key = bucket_of(&asked.key.workflow, &asked.key.path);
-        let turn = turn_for(&self.asked, self.waiting.as_slice(), &asked.rank);
+        let turn = turn_for(&self.asked, &self.waiting, &asked.rank);
         let bucket = self.bucket(key).copy()?;
         let table = with_place(&self.table, key, bucket, place)?;
         let all = with_asked(&self.asked, asked)?;
-        self.states.try_reserve(1)?;
+        let states = self.states.with(place as usize, state)?;
         let new = Holder {
             place,
             bucket: key as u32,
         };
-        list_new(&mut self.holding, &mut self.waiting, state, new, turn)?;
-        self.states.push_reserved(state);
+        let waiting = waiting_with(&self.waiting, state, turn, place)?;
+        hold_new(&mut self.holding, state, new)?;
         self.asked = all;
+        self.states = states;
         self.table = table;
+        self.waiting = waiting;
         Ok(())
     }
 
@@ -131,11 +139,11 @@ impl Requests {
         requires { place < length self.now }
         ensures { Some result ≡ option_map rows.state_of (slice_get self.now place) }
     {
-        self.states[place]
+        self.states.get(place).unwrap()
     }
 
     // Whether the request at a place is of the key of these parts.
-    fn is_by(&self, place: usize, workflow: &Text, path: &Path) -> bool
+    pub(crate) fn is_by(&self, place: usize, workflow: &Text, path: &Path) -> bool
         ensures { result ≡ rows.is_at (laws.is_of (key_by workflow.now path.now)) self.now place }
     {
         match self.asked.get(place) {
@@ -158,8 +166,8 @@ impl Requests {
     }
 
     // Where the request of the key of these parts stands.
-    fn find(&self, workflow: &Text, path: &Path) -> Option<usize>
-        ensures { result ≡ rows.place (laws.is_of (key_by workflow.now path.now)) self.now }
+    pub(crate) fn find(&self, workflow: &Text, path: &Path) -> Option<usize>
+        ensures { result ≡ book.place (laws.is_of (key_by workflow.now path.now)) self.now }
     {
         self.find_in(self.bucket(bucket_of(workflow, path)), workflow, path)
     }
@@ -294,37 +302,40 @@ impl Requests {
     }
 
     // Releases the lock that a request holds, which goes to the first of its waiters, if there is one.
-    pub(crate) fn release(&mut self, place: usize)
+    pub(crate) fn release(&mut self, place: usize) -> Result<(), Memory>
         requires { option_map rows.state_of (slice_get self.old place) ≡ Some LockState.Holding }
-        ensures { (r : Request) → slice_get self.old place ≡ Some r
-            → self.new ≡ laws.passed_on r.lock.text (slice_set self.old place (books.released r)) }
+        ensures ok { OnOk result ((r : Request) → slice_get self.old place ≡ Some r
+            → self.new ≡ laws.passed_on r.lock.text (slice_set self.old place (books.released r))) }
+        ensures err { OnErr result (self.new ≡ self.old) }
     {
         laws::orders_ranks();
         let held = position_of(self.holding.as_slice(), place).unwrap();
-        let next = first_for(
-            &self.asked,
-            self.waiting.as_slice(),
-            &self.asked(place).lock,
-        );
-        self.states[place] = LockState::Released;
+        let next = first_for(&self.asked, &self.waiting, &self.asked(place).lock);
         match next {
             None => {
+                let states = self.states.with_set(place, LockState::Released)?;
                 self.holding.remove(held);
+                self.states = states;
             }
             Some(turn) => {
-                let first = self.waiting.remove(turn);
-                self.states[first as usize] = LockState::Holding;
-                // The new holder takes the place of the old one, which needs no memory.
+                let first = self.waiting.get(turn).unwrap();
+                let waiting = self.waiting.without(turn)?;
+                let freed = self.states.with_set(place, LockState::Released)?;
+                let states = freed.with_set(first as usize, LockState::Holding)?;
+                // The new holder takes the place of the old one.
                 self.holding[held] = holder_at(&self.asked, first);
+                self.states = states;
+                self.waiting = waiting;
             }
         }
+        Ok(())
     }
 
     // Where the request of a key stands, if it holds its lock.
     pub(crate) fn holder_of(&self, key: &HolderKey) -> Option<usize>
         ensures { MatchOption result
             (¬ (state_in key.now self.now ≡ Some LockState.Holding))
-            (λ i. (rows.place (laws.is_of key.now) self.now ≡ Some i)
+            (λ i. (book.place (laws.is_of key.now) self.now ≡ Some i)
             × (state_in key.now self.now ≡ Some LockState.Holding)) }
     {
         match self.find(&key.workflow, &key.path) {
@@ -386,25 +397,32 @@ fn with_asked(all: &SharedList<Asked>, asked: Asked) -> Result<SharedList<Asked>
     Ok(all)
 }
 
-// Lists a new request that stands so: behind all holders, or at its turn among those that wait.
-fn list_new(
-    holding: &mut Vec<Holder>,
-    waiting: &mut Vec<u32>,
-    state: LockState,
-    new: Holder,
-    turn: usize,
-) -> Result<(), Memory>
-    requires { turn ≤ length waiting.old.items }
-    ensures holding { OnOk result (holding.new.items ≡ holding_with state new holding.old.items) }
-    ensures waiting { OnOk result (waiting.new.items ≡ queues.waiting_with state new.place turn waiting.old.items) }
-    ensures err { OnErr result ((holding.new.items ≡ holding.old.items) × (waiting.new.items ≡ waiting.old.items)) }
+// Lists a new request behind all holders, if it holds.
+fn hold_new(holding: &mut Vec<Holder>, state: LockState, new: Holder) -> Result<(), Memory>
+    ensures ok { OnOk result (holding.new.items ≡ holding_with state new holding.old.items) }
+    ensures err { OnErr result (holding.new.items ≡ holding.old.items) }
 {
     match state {
-        LockState::Waiting => waiting.insert(turn, new.place)?,
         LockState::Holding => holding.push(new)?,
-        LockState::Released => {}
+        LockState::Waiting | LockState::Released => {}
     }
     Ok(())
+}
+
+// Those that wait, and a new request at its turn among them, if it waits.
+fn waiting_with(
+    waiting: &Pieces<u32>,
+    state: LockState,
+    turn: usize,
+    place: u32,
+) -> Result<Pieces<u32>, Memory>
+    requires { turn ≤ length waiting.now }
+    ensures { IfOk result (λ new. new ≡ queues.waiting_with state place turn waiting.now) }
+{
+    match state {
+        LockState::Waiting => waiting.with(turn, place),
+        LockState::Holding | LockState::Released => waiting.share(),
+    }
 }
 
 // How a new request stands.

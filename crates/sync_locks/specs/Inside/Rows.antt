@@ -1,5 +1,5 @@
 -- Requests by what was asked for and how it stands, and places in them.
-use Rattle.std.specs.Prelude.{ℕ, suc, Bool, true, false, cond, List, [], ◌∷◌, Option, Some, None, option_map, slice_get}
+use Rattle.std.specs.Prelude.{ℕ, Bool, true, false, List, [], ◌∷◌, Option, Some, None, slice_get}
 use Rattle.books.specs.declared.Request.{Request}
 use Rattle.books.specs.declared.LockState.TheVariants.{Waiting, Holding}
 use Rattle.books.specs.declared.LockState.{LockState}
@@ -33,8 +33,3 @@ is_at test rs place = passes test (slice_get rs place)
 abbrev pub state_by : Bool → LockState
 state_by true = Holding
 state_by false = Waiting
-
--- where the first that passes stands
-abbrev pub place : (Request → Bool) → List Request → Option ℕ
-place test [] = None
-place test (r ∷ rs) = cond (test r) (Some 0) (option_map suc (place test rs))

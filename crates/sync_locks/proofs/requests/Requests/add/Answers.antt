@@ -1,8 +1,9 @@
 -- The bucket of the key has the place at its end, the lists have it by its state, and the request stands there.
-use Rattle.std.proofs.Common.{◌≡◌, ℕ, ◌≤◌, List, [], ◌∷◌, ◌++◌, length, ◌∙◌, ap, ap₂, subst, arith}
+use Rattle.std.proofs.Common.{◌≡◌, ℕ, length, List, [], ◌∷◌, ◌++◌, refl, ◌∙◌, ap, ap₂, arith}
+use Rattle.std.specs.List.{insert}
 use Rattle.std.proofs.lemmas.Option.{slice_get_within}
+use Rattle.std.proofs.lemmas.List.Edits.{insert_end}
 use Rattle.books.specs.declared.Request.{Request}
-use Rattle.books.specs.declared.LockState.{LockState}
 use Rattle.sync_locks.specs.Inside.Rows.{request_of, requests_in}
 use Rattle.sync_locks.specs.Inside.Tables.{places_of}
 use Rattle.sync_locks.specs.declared.holder.Holder.{Holder}
@@ -16,36 +17,44 @@ use Rattle.sync_locks.proofs.requests.Requests.add.Goals as goal
 pub with_place-requires : goal.with_place-requires
 with_place-requires c =
     let own = c.bucket_of-key.result in
-    slice_get_within c.self.inside.table own (places_of own (requests_in c.self.inside.asked c.self.inside.states.items)) (c.self.invariant.kept.tabled.each own c.bucket_of-key.ensures.few)
+    slice_get_within c.self.inside.table own (places_of own (requests_in c.self.inside.asked c.self.inside.states)) (c.self.invariant.kept.tabled.each own c.bucket_of-key.ensures.few)
 
-pub list_new-requires : goal.list_new-requires
-list_new-requires c = subst (λ (xs : List ℕ). c.turn_for-turn.result ≤ length xs) c.as_slice.ensures.value c.turn_for-turn.ensures.bound
+pub waiting_with-requires : goal.waiting_with-requires
+waiting_with-requires c = c.turn_for-turn.ensures.bound
+
+pub with-requires : goal.with-requires
+with-requires c =
+    let s = c.self.inside in
+    let long = length_seen s.asked s.states c.args.self.now c.self.invariant.kept.each_stands c.self.view_is in
+    omega (arith, c.in_ok-place.ensures, c.len.ensures, long)
 
 pub invariant_of-self-2 : goal.invariant_of-self-2
 invariant_of-self-2 c =
     let s = c.self.inside in
-    let states_are : c.push_reserved.new.self.items ≡ s.states.items ++ c.args.state ∷ [] =
-    c.push_reserved.ensures.items ∙ ap (λ (x : List LockState). x ++ c.args.state ∷ []) c.try_reserve.ensures.items in
     let place_is = c.in_ok-place.ensures ∙ c.len.ensures in
-    let long = length_seen s.asked s.states.items c.args.self.now c.self.invariant.kept.each_stands c.self.view_is in
+    let long = length_seen s.asked s.states c.args.self.now c.self.invariant.kept.each_stands c.self.view_is in
+    let at : c.in_ok-place.place ≡ length s.states = omega (arith, place_is, long) in
+    let states_are : c.in_ok-states.states ≡ s.states ++ c.args.state ∷ [] = c.in_ok-states.ensures ∙ ap (λ (i : ℕ). insert s.states i c.args.state) at ∙ insert_end s.states c.args.state in
     let new : Holder = record { place = c.in_ok-place.place; bucket = c.bucket_of-key.result } in record {
       kept =
-          kept_added c.orders_ranks.ensures s.asked s.states.items s.table (places_in s.holding.items) s.waiting.items c.self.invariant.kept c.args.asked c.args.state c.args.self.now c.self.view_is
-          c.as_slice.result.now c.as_slice.ensures.value c.turn_for-turn.result c.turn_for-turn.ensures.bound c.turn_for-turn.ensures.parted
+          kept_added c.orders_ranks.ensures s.asked s.states s.table (places_in s.holding.items) s.waiting c.self.invariant.kept c.args.asked c.args.state c.args.self.now c.self.view_is
+          s.waiting refl c.turn_for-turn.result c.turn_for-turn.ensures.bound c.turn_for-turn.ensures.parted
           c.bucket_of-key.result c.bucket_of-key.ensures.is c.bucket_of-key.ensures.few
           c.in_ok-place.place place_is c.in_ok-bucket.bucket (c.in_ok-bucket.ensures ∙ c.bucket.ensures)
-          c.in_ok-all.all c.in_ok-all.ensures c.push_reserved.new.self.items states_are c.in_ok-table.table c.in_ok-table.ensures
-          (places_in c.list_new.new.holding.items) (ap places_in c.in_ok-list_new.ensures.holding ∙ places_with c.args.state new s.holding.items) c.list_new.new.waiting.items c.in_ok-list_new.ensures.waiting;
+          c.in_ok-all.all c.in_ok-all.ensures c.in_ok-states.states states_are c.in_ok-table.table c.in_ok-table.ensures
+          (places_in c.hold_new.new.holding.items) (ap places_in c.in_ok-hold_new.ensures.ok ∙ places_with c.args.state new s.holding.items) c.in_ok-waiting.waiting c.in_ok-waiting.ensures;
       bucketed =
           bucketed_added s.asked c.args.asked c.args.state new s.holding.items c.self.invariant.bucketed (omega (arith, place_is, long, c.self.invariant.kept.each_stands)) c.bucket_of-key.ensures.is
-          c.in_ok-all.all c.in_ok-all.ensures c.list_new.new.holding.items c.in_ok-list_new.ensures.holding;
+          c.in_ok-all.all c.in_ok-all.ensures c.hold_new.new.holding.items c.in_ok-hold_new.ensures.ok;
     }
 
 pub returns-clause-ok : goal.returns-clause-ok
 returns-clause-ok c =
     let asked_are : c.in_ok-all.all ≡ c.self.inside.asked ++ c.args.asked ∷ [] = c.in_ok-all.ensures in
-    let states_are : c.push_reserved.new.self.items ≡ c.self.inside.states.items ++ c.args.state ∷ [] =
-    c.push_reserved.ensures.items ∙ ap (λ (x : List LockState). x ++ c.args.state ∷ []) c.try_reserve.ensures.items in
+    let s = c.self.inside in
+    let long = length_seen s.asked s.states c.args.self.now c.self.invariant.kept.each_stands c.self.view_is in
+    let at : c.in_ok-place.place ≡ length s.states = omega (arith, c.in_ok-place.ensures, c.len.ensures, long) in
+    let states_are : c.in_ok-states.states ≡ s.states ++ c.args.state ∷ [] = c.in_ok-states.ensures ∙ ap (λ (i : ℕ). insert s.states i c.args.state) at ∙ insert_end s.states c.args.state in
     ap₂ requests_in asked_are states_are
-    ∙ requests_more c.self.inside.asked c.self.inside.states.items c.args.asked c.args.state c.self.invariant.kept.each_stands
+    ∙ requests_more c.self.inside.asked c.self.inside.states c.args.asked c.args.state c.self.invariant.kept.each_stands
     ∙ ap (λ (rs : List Request). rs ++ request_of c.args.asked c.args.state ∷ []) c.self.view_is

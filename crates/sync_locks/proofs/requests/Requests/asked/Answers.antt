@@ -9,8 +9,8 @@ pub unwrap-requires : goal.unwrap-requires
 unwrap-requires c =
     let x = there c.args.self.now c.args.place c.requires in
     lent_some c.get.result (asked_of x.0)
-    (c.get.ensures ∙ asked_seen c.self.inside.asked c.self.inside.states.items c.args.self.now c.args.place c.self.invariant.kept.each_stands c.self.view_is ∙ ap (option_map asked_of) x.1)
+    (c.get.ensures ∙ asked_seen c.self.inside.asked c.self.inside.states c.args.self.now c.args.place c.self.invariant.kept.each_stands c.self.view_is ∙ ap (option_map asked_of) x.1)
 
 pub returns : goal.returns
 returns c =
-    sym (ap option_copied c.unwrap.ensures) ∙ c.get.ensures ∙ asked_seen c.self.inside.asked c.self.inside.states.items c.args.self.now c.args.place c.self.invariant.kept.each_stands c.self.view_is
+    sym (ap option_copied c.unwrap.ensures) ∙ c.get.ensures ∙ asked_seen c.self.inside.asked c.self.inside.states c.args.self.now c.args.place c.self.invariant.kept.each_stands c.self.view_is

@@ -12,4 +12,4 @@ pub returns : goal.returns
 returns c =
     let s = c.self.inside in
     let many : c.len.result ≡ length (places_in s.holding.items) = omega (arith, c.len.ensures, length-map s.holding.items (λ (h : Holder). h.place)) in
-    ap (nat_lt 32) (many ∙ count_listed (places_in s.holding.items) (requests_in s.asked s.states.items) c.self.invariant.kept.held) ∙ ap has_many_holders c.self.view_is
+    ap (nat_lt 32) (many ∙ count_listed (places_in s.holding.items) (requests_in s.asked s.states) c.self.invariant.kept.held) ∙ ap has_many_holders c.self.view_is

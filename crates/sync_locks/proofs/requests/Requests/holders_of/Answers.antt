@@ -17,5 +17,5 @@ returns c =
     ∙ ap (λ (hs : List Holder). count_by (λ (h : Holder). is_for lock asked h.place) hs) c.as_slice.ensures.value
     ∙ sum_at_places (λ n. cond (is_for lock asked n) 1 0) c.self.inside.holding.items
     ∙ c.self.invariant.kept.held (λ n. cond (is_for lock asked n) 1 0)
-    ∙ counted lock asked c.self.inside.states.items
+    ∙ counted lock asked c.self.inside.states
     ∙ ap (λ (rs : List Request). holders lock rs) c.self.view_is

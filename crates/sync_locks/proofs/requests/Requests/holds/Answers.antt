@@ -21,7 +21,7 @@ returns-then-not-has_many_holders c =
     let holding = places_in c.self.inside.holding.items in
     c.is_among.ensures
     ∙ ap (list_any (is_there c.bucket_of-bucket.result (is_of key) rs)) c.as_slice.ensures.value
-    ∙ any_there c.self.inside.asked c.self.inside.states.items rs c.self.invariant.kept.each_stands c.self.view_is key c.bucket_of-bucket.result c.bucket_of-bucket.ensures.is c.self.inside.holding.items c.self.invariant.bucketed
+    ∙ any_there c.self.inside.asked c.self.inside.states rs c.self.invariant.kept.each_stands c.self.view_is key c.bucket_of-bucket.result c.bucket_of-bucket.ensures.is c.self.inside.holding.items c.self.invariant.bucketed
     ∙ any_listed is_holding (is_of key) holding rs (subst (λ (x : List Request). Lists is_holding holding x) c.self.view_is c.self.invariant.kept.held)
     ∙ held_alone key rs c.requires
 

@@ -8,4 +8,4 @@ pub invariant_of-result : goal.invariant_of-result
 invariant_of-result c =
     let table : List (List ℕ) = c.in_ok-filled.field-0 in
     let filled : table ≡ replicate buckets [] = c.in_ok-filled.ensures ∙ ap (λ (bucket : List ℕ). replicate buckets bucket) c.in_ok-empty.ensures in
-    rw (c.in_ok-new.ensures, c.new-3.ensures.items, filled, c.new-4.ensures.items, c.new-5.ensures.items) stored_none
+    rw (c.in_ok-new.ensures, c.in_ok-new-2.ensures, filled, c.new-4.ensures.items, c.in_ok-new-3.ensures) stored_none
