@@ -8,6 +8,7 @@ mod OtherKinds
 mod Passing
 mod Running
 mod Marked
+mod Firsts
 mod Saving
 mod Lasting
 mod Filing

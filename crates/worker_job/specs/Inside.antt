@@ -19,7 +19,7 @@ use Rattle.worker_job.specs.declared.job.SeenPod.{SeenPod}
 use Rattle.worker_job.specs.declared.job.Job.TheInside.{Inside}
 use Rattle.worker_job.specs.Jobs.{OneJob}
 use Rattle.worker_job.specs.Inside.Filing.{FilingFits}
-use Rattle.worker_job.specs.Inside.Marks.{MarksFit}
+use Rattle.worker_job.specs.Inside.Marks.{MarksFit, FoundFits}
 use Rattle.worker_job.specs.Inside.Saving.{SavingFits}
 
 -- ---- what was read, as views
@@ -73,9 +73,10 @@ pub record IsKept (w : Text) (flow book saves : Option (Snapshot Content)) : Typ
   pub book_of : IsOf Locks book_seen book
   pub saves_of : IsOf Caches saves_seen saves
 
--- and the marks and what is left are right
+-- and the marks, the pod that was found and what is left are right
 pub record IsHeld (a : Inside) : Type 0 where
   pub kept : IsKept a.workflow a.flow a.book a.saves
   pub marked : MarksFit (looks_of a) (flow_of a) a.marks
+  pub found : FoundFits (looks_of a) (flow_of a) a.found
   pub to_save : SavingFits a.to_save a.workflow (option_and_then flow_seen a.flow) (option_and_then saves_seen a.saves)
   pub to_file : FilingFits a.to_file a.workflow (option_and_then flow_seen a.flow) (option_and_then book_seen a.book)

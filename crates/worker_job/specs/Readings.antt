@@ -22,6 +22,7 @@ use Rattle.next_step.specs.Replies.{seen}
 use Rattle.worker_job.specs.declared.matter.Next.{Next as Act}
 use Rattle.worker_job.specs.declared.reading.Reading.{Reading}
 use Rattle.worker_job.specs.Told.{next_told}
+use Rattle.worker_job.specs.Inside.Marks.{IsMarked, FoundIs}
 use Rattle.worker_job.specs.Inside.Left.{LeftOf}
 use Rattle.worker_job.specs.Inside.Filing.{FilingOf}
 use Rattle.worker_job.specs.Inside.Saving.{is_left}
@@ -39,6 +40,11 @@ passes test (Some b) = test b.content.requests
 
 abbrev pub step_told : Option Act → Step
 step_told o = option_map next_told o
+
+-- what is known of the pods that are asked for
+pub record KnowsPods (r : Reading) : Type 0 where
+  pub marked : IsMarked r.job.now.views.pods r.object.now r.marks.now
+  pub found : FoundIs r.job.now.views.pods r.object.now r.found.now
 
 module _ (r : Reading) where
   abbrev pub law : Document

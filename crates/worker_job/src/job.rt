@@ -18,14 +18,14 @@ ghost use Rattle.next_step.specs.Replies.{after, taken, with_look, seen, found, 
 ghost use Rattle.worker_job.specs.Jobs.{Leaves, IsRead, HasMore, GoesOn, FactGoesOn, HasMoreSaves, SavesGoOn, SaveGoesOn, BookGoesOn, LocksGoOn, KeepsRequests, ShowsFlow, ShowsBook, ShowsSaves};
 ghost use Rattle.worker_job.specs.Told.{matter_told, next_told, key_of};
 ghost use Rattle.worker_job.specs.Inside.Filing.{is_unknown, FiledOf, FiledFits, FilingFits};
-ghost use Rattle.worker_job.specs.Inside.Marks.{IsMarked, MarksFit};
+ghost use Rattle.worker_job.specs.Inside.Marks.{IsMarked, MarksFit, FoundFits};
 ghost use Rattle.worker_job.specs.Inside.Saving.{is_left, SavingFits};
 ghost use Rattle.worker_job.specs.Inside.{look_told, pod_told, kept_saves, flow_seen, book_seen, saves_seen};
 
-use crate::marks::{Marks, Pods};
+use crate::marks::{Found, Marks, Pods};
 use crate::matter::{Matter, Next};
 use crate::reading::Reading;
-use crate::to_file::ToFile;
+use crate::to_file::{Near, ToFile};
 use crate::to_save::ToSave;
 use ahead::Ahead;
 use base_types::{List, Memory, Names, Text, TryCopy};
@@ -57,6 +57,7 @@ pub struct Job {
     saves: Option<Snapshot<WfContent>>,
     looks: Looks<SeenPod>,
     marks: Marks,
+    found: Option<Found>,
     to_save: Ahead,
     to_file: Ahead,
     // The names of the resubmissions that were tried, the last one last.
@@ -73,6 +74,7 @@ impl Drop for Job {
             saves: _,
             looks: _,
             marks: _,
+            found: _,
             to_save: _,
             to_file: _,
             tried: _,
@@ -107,6 +109,7 @@ impl Job {
             saves: None,
             looks: Looks::new(alloc),
             marks: Marks::none(),
+            found: None,
             to_save: Ahead::unknown(),
             to_file: Ahead::unknown(),
             tried: List::new(alloc),
@@ -138,6 +141,7 @@ impl Job {
                     version: snapshot.version,
                     tick: snapshot.tick,
                     marks: &self.marks,
+                    found: &self.found,
                     to_save: &self.to_save,
                     to_file: &self.to_file,
                 };
@@ -364,6 +368,7 @@ impl Job {
                 let to_file = ToFile {
                     workflow: &self.workflow,
                     book,
+                    near: Near::first(&self.workflow, book, object),
                 };
                 to_file.is_done(object)
             }
@@ -383,6 +388,7 @@ impl Job {
                 let to_file = ToFile {
                     workflow: &self.workflow,
                     book,
+                    near: Near::first(&self.workflow, book, object),
                 };
                 to_file.is_done(object)
             }
@@ -472,6 +478,7 @@ impl Job {
                 let left = ToFile {
                     workflow: &self.workflow,
                     book,
+                    near: None,
                 };
                 ahead.moved(WantKind::Lock, &left, object.state())
             }
@@ -570,7 +577,9 @@ impl Job {
         self.saves = None;
         self.to_save = Ahead::unknown();
         self.to_file = nothing_if(self.workflow.allocator(), filed);
-        self.marks = marks_behind(&self.flow, &self.looks, marks);
+        let (marks, found) = marks_behind(&self.flow, &self.looks, marks);
+        self.marks = marks;
+        self.found = found;
     }
 
     fn set_book(&mut self, snapshot: Snapshot<WfContent>, to_file: Ahead)
@@ -602,8 +611,11 @@ impl Job {
         ensures workflow { self.new.workflow ≡ self.old.workflow }
     {
         let marks = mem::replace(&mut self.marks, Marks::none()).after(&name, &found);
+        self.found = None;
         self.looks.add(name, found)?;
-        self.marks = marks_behind(&self.flow, &self.looks, marks);
+        let (marks, found) = marks_behind(&self.flow, &self.looks, marks);
+        self.marks = marks;
+        self.found = found;
         Ok(())
     }
 
@@ -615,6 +627,7 @@ impl Job {
         ensures workflow { self.new.workflow ≡ self.old.workflow }
     {
         self.marks = Marks::none();
+        self.found = None;
         let none = Looks::new(self.workflow.allocator());
         let looks = mem::replace(&mut self.looks, none);
         self.looks = looks.without(name)?;
@@ -632,16 +645,21 @@ impl Job {
     }
 }
 
-// The marks moved on, where a workflow was read.
-fn marks_behind(flow: &Option<Snapshot<WfContent>>, looks: &Looks<SeenPod>, marks: Marks) -> Marks
+// The marks moved on, where a workflow was read, and what the next step finds by them.
+fn marks_behind(
+    flow: &Option<Snapshot<WfContent>>,
+    looks: &Looks<SeenPod>,
+    marks: Marks,
+) -> (Marks, Option<Found>)
     requires { MarksFit (map look_told looks.now) (option_and_then (λ s. flow_in (Some s.content)) flow.now) marks }
-    ensures { MarksFit (map look_told looks.now) (option_and_then (λ s. flow_in (Some s.content)) flow.now) result }
+    ensures marked { MarksFit (map look_told looks.now) (option_and_then (λ s. flow_in (Some s.content)) flow.now) result.0 }
+    ensures found { FoundFits (map look_told looks.now) (option_and_then (λ s. flow_in (Some s.content)) flow.now) result.1 }
 {
     let Some(snapshot) = flow else {
-        return marks;
+        return (marks, None);
     };
     match snapshot.content.workflow() {
-        None => marks,
+        None => (marks, None),
         Some(object) => Pods { looks, object }.advanced(marks),
     }
 }

@@ -198,6 +198,37 @@ pub(crate) enum Sought {
     Absent,
 }
 
+// The first such pod that is asked for, as it was found when the marks moved on.
+#[derive(Drop)]
+pub(crate) struct Found {
+    pub(crate) sought: Sought,
+    pub(crate) want: Want,
+}
+
+impl Found {
+    // Where there is no memory to keep it, it is found again.
+    fn kept(sought: Sought, want: &Want) -> Option<Found>
+        ensures { marked.IsOf sought want.now result }
+    {
+        match want.copy() {
+            Ok(want) => Some(Found { sought, want }),
+            Err(_) => None,
+        }
+    }
+
+    // The pod, where it is such.
+    pub(crate) fn such(&self, sought: Sought) -> Option<&Want>
+        ensures { IfSome result (λ want. self.now ≡ record { sought = sought; want = want.now }) }
+    {
+        match (self.sought, sought) {
+            (Sought::Unread, Sought::Unread)
+            | (Sought::Ended, Sought::Ended)
+            | (Sought::Absent, Sought::Absent) => Some(&self.want),
+            _ => None,
+        }
+    }
+}
+
 // The pods that a workflow asks for, and the looks at pods.
 #[derive(Clone, Copy)]
 pub(crate) struct Pods<'a> {
@@ -290,23 +321,27 @@ impl<'a> Pods<'a> {
         self.object.state().find_pod_behind(known, &test)
     }
 
-    // How many pods from the first are no such pods, where so many are known to be none.
-    fn first(&self, sought: Sought, known: usize) -> usize
+    // How many pods from the first are no such pods, where so many are known to be none; and the first such pod.
+    fn first(&self, sought: Sought, known: usize) -> (usize, Option<&'a Want>)
         requires { marked.IsKnown known (marked.such sought (map look_told self.now.looks.now) self.now.object.now)
             (pods_in (wants_of self.now.object.now)) }
-        ensures { marked.IsKnown result (marked.such sought (map look_told self.now.looks.now) self.now.object.now)
+        ensures known { marked.IsKnown result.0 (marked.such sought (map look_told self.now.looks.now) self.now.object.now)
+            (pods_in (wants_of self.now.object.now)) }
+        ensures found { option_copied result.1
+            ≡ find (marked.such sought (map look_told self.now.looks.now) self.now.object.now)
             (pods_in (wants_of self.now.object.now)) }
     {
         match self.find(sought, known) {
-            None => ALL,
-            Some((position, _)) => position.min(ALL - 1),
+            None => (ALL, None),
+            Some((position, want)) => (position.min(ALL - 1), Some(want)),
         }
     }
 
-    // The marks moved on, as far as the steps look that come next.
-    pub(crate) fn advanced(&self, marks: Marks) -> Marks
+    // The marks moved on, as far as the steps look that come next, and what the first of these finds.
+    pub(crate) fn advanced(&self, marks: Marks) -> (Marks, Option<Found>)
         requires { marked.IsMarked (map look_told self.now.looks.now) self.now.object.now marks }
-        ensures { marked.IsMarked (map look_told self.now.looks.now) self.now.object.now result }
+        ensures marked { marked.IsMarked (map look_told self.now.looks.now) self.now.object.now result.0 }
+        ensures found { marked.FoundIs (map look_told self.now.looks.now) self.now.object.now result.1 }
     {
         let Marks {
             read,
@@ -314,32 +349,41 @@ impl<'a> Pods<'a> {
             created,
         } = marks;
         let Read::First(known) = read else {
-            return Marks {
+            let marks = Marks {
                 read,
                 settled,
                 created,
             };
+            return (marks, None);
         };
-        let read = self.first(Sought::Unread, known);
-        if read < ALL {
-            return Marks {
-                read: Read::First(read),
+        let (read, unread) = self.first(Sought::Unread, known);
+        let read = Read::First(read);
+        if let Some(want) = unread {
+            let marks = Marks {
+                read,
                 settled,
                 created,
             };
+            return (marks, Found::kept(Sought::Unread, want));
         }
-        let settled = self.first(Sought::Ended, settled);
-        if settled < ALL {
-            return Marks {
-                read: Read::First(read),
+        let (settled, ended) = self.first(Sought::Ended, settled);
+        if let Some(want) = ended {
+            let marks = Marks {
+                read,
                 settled,
                 created,
             };
+            return (marks, Found::kept(Sought::Ended, want));
         }
-        Marks {
-            read: Read::First(read),
+        let (created, absent) = self.first(Sought::Absent, created);
+        let marks = Marks {
+            read,
             settled,
-            created: self.first(Sought::Absent, created),
+            created,
+        };
+        match absent {
+            None => (marks, None),
+            Some(want) => (marks, Found::kept(Sought::Absent, want)),
         }
     }
 }

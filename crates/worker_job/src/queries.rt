@@ -1,6 +1,7 @@
 //! The first want or node of the tree that gives something.
 
-ghost use Rattle.std.specs.Prelude.{◌≡◌, Some, None, is_some, option_map};
+ghost use Rattle.std.specs.Prelude.{◌≡◌, Some, None, is_some, option_map, IfSome};
+ghost use Rattle.std.specs.List.{find};
 ghost use Rattle.tree_state.specs.declared.kinds.WantKind.TheVariants as kind;
 ghost use Rattle.ahead.specs.Left.{AheadOf};
 ghost use Rattle.tree_types.specs.declared.fact.Fact.TheVariants as fact;
@@ -11,7 +12,8 @@ ghost use Rattle.law.specs.Justified as justified;
 ghost use Rattle.law.specs.Due.{record_fact, file, create, save, release};
 ghost use Rattle.next_step.specs.Views.{first_given};
 ghost use Rattle.next_step.specs.Next.{get};
-ghost use Rattle.worker_job.specs.Inside.Marks.{IsMarked};
+ghost use Rattle.tree_state.specs.Finding.{pods_in};
+ghost use Rattle.worker_job.specs.Inside.Marks.{FoundIs, such};
 ghost use Rattle.worker_job.specs.Inside.Saving.{is_left};
 ghost use Rattle.worker_job.specs.Readings as reads;
 
@@ -109,12 +111,28 @@ impl<'a> NodeTest for Kept<'a> {
 }
 
 impl<'a> Reading<'a> {
+    // The first such pod, where it was found when the marks moved on.
+    fn found_pod(&self, sought: Sought) -> Option<&'a Want>
+        requires { FoundIs self.now.job.now.views.pods self.now.object.now self.now.found.now }
+        ensures { IfSome result (λ want.
+            find (such sought self.now.job.now.views.pods self.now.object.now) (pods_in (justified.wants_of self.now.object.now))
+            ≡ Some want.now) }
+    {
+        match self.found {
+            None => None,
+            Some(found) => found.such(sought),
+        }
+    }
+
     // The name of the first pod that was not looked at.
     pub(crate) fn first_unlooked(&self) -> Option<&Text>
-        requires marked { IsMarked self.now.job.now.views.pods self.now.object.now self.now.marks.now }
+        requires marked { reads.KnowsPods self.now }
         ensures { option_map (λ n. get (of_key.Pod (reads.workflow self.now) n.now)) result
             ≡ reads.asked self.now (reads.reading self.now) }
     {
+        if let Some(want) = self.found_pod(Sought::Unread) {
+            return self.unlooked(want);
+        }
         match &self.marks.read {
             Read::First(known) => match self.pods().find(Sought::Unread, *known) {
                 None => None,
@@ -126,10 +144,13 @@ impl<'a> Reading<'a> {
 
     // The first pod that finished, and its outcome.
     pub(crate) fn first_finished(&self) -> Option<(&Path, &Shared<Outcome>)>
-        requires marked { IsMarked self.now.job.now.views.pods self.now.object.now self.now.marks.now }
+        requires marked { reads.KnowsPods self.now }
         ensures { option_map (λ f. record_fact (fact.Settled f.0.now f.1.now)) result
             ≡ reads.asked self.now (reads.settling self.now) }
     {
+        if let Some(want) = self.found_pod(Sought::Ended) {
+            return self.finished(want);
+        }
         match self.pods().find(Sought::Ended, self.marks.settled) {
             None => None,
             Some((_, want)) => self.finished(want),
@@ -189,10 +210,13 @@ impl<'a> Reading<'a> {
 
     // The first pod that was noted as absent.
     pub(crate) fn first_noted(&self) -> Option<(&Path, &Text)>
-        requires marked { IsMarked self.now.job.now.views.pods self.now.object.now self.now.marks.now }
+        requires marked { reads.KnowsPods self.now }
         ensures { option_map (λ n. create n.0.now n.1.now) result
             ≡ reads.asked self.now (reads.creating self.now) }
     {
+        if let Some(want) = self.found_pod(Sought::Absent) {
+            return self.noted(want);
+        }
         match self.pods().find(Sought::Absent, self.marks.created) {
             None => None,
             Some((_, want)) => self.noted(want),

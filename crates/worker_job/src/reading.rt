@@ -16,7 +16,7 @@ ghost use Rattle.worker_job.specs.Told.{resubmission_told};
 ghost use Rattle.worker_job.specs.Readings as reads;
 
 use crate::job::Job;
-use crate::marks::{Marks, Pods};
+use crate::marks::{Found, Marks, Pods};
 use crate::matter::Resubmission;
 use ahead::Ahead;
 use base_types::{Memory, Shared, Text, TryCopy};
@@ -41,6 +41,7 @@ pub(crate) struct Reading<'a> {
     pub(crate) version: u64,
     pub(crate) tick: u64,
     pub(crate) marks: &'a Marks,
+    pub(crate) found: &'a Option<Found>,
     pub(crate) to_save: &'a Ahead,
     pub(crate) to_file: &'a Ahead,
 }

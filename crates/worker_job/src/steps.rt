@@ -8,7 +8,6 @@ ghost use Rattle.law.specs.Justified.{wants_of};
 ghost use Rattle.next_step.specs.Next as next;
 ghost use Rattle.next_step.specs.Next.{act};
 ghost use Rattle.worker_job.specs.Told.{next_told};
-ghost use Rattle.worker_job.specs.Inside.Marks.{IsMarked};
 ghost use Rattle.tree_state.specs.declared.kinds.WantKind.TheVariants as kind;
 ghost use Rattle.ahead.specs.Left.{AheadOf};
 ghost use Rattle.worker_job.specs.Inside.Saving.{is_left};
@@ -41,7 +40,7 @@ fn copied(outputs: Option<&Shared<Outputs>>) -> Result<Option<Shared<Outputs>>, 
 impl<'a> Reading<'a> {
     // What a worker does next: the first of the steps that applies.
     pub(crate) fn next(&self) -> Result<Next, Memory>
-        requires marked { IsMarked self.now.job.now.views.pods self.now.object.now self.now.marks.now }
+        requires marked { reads.KnowsPods self.now }
         requires to_save { reads.KnowsSaving self.now }
         requires to_file { reads.KnowsFiling self.now }
         ensures { IfOk result (λ n. next_told n ≡ next.first_step (reads.steps self.now)) }
@@ -60,7 +59,7 @@ impl<'a> Reading<'a> {
 
     // The same, where the steps before do not apply.
     fn next_answer(&self) -> Result<Next, Memory>
-        requires marked { IsMarked self.now.job.now.views.pods self.now.object.now self.now.marks.now }
+        requires marked { reads.KnowsPods self.now }
         requires to_save { reads.KnowsSaving self.now }
         requires to_file { reads.KnowsFiling self.now }
         ensures { IfOk result (λ n. next_told n ≡ next.first_step (reads.answering_steps self.now)) }
@@ -78,7 +77,7 @@ impl<'a> Reading<'a> {
     }
 
     fn next_waiting(&self) -> Result<Next, Memory>
-        requires marked { IsMarked self.now.job.now.views.pods self.now.object.now self.now.marks.now }
+        requires marked { reads.KnowsPods self.now }
         requires to_save { reads.KnowsSaving self.now }
         ensures { IfOk result (λ n. next_told n ≡ next.first_step (reads.waiting_steps self.now)) }
     {
@@ -95,7 +94,7 @@ impl<'a> Reading<'a> {
     }
 
     fn next_change(&self) -> Result<Next, Memory>
-        requires marked { IsMarked self.now.job.now.views.pods self.now.object.now self.now.marks.now }
+        requires marked { reads.KnowsPods self.now }
         requires to_save { reads.KnowsSaving self.now }
         ensures { IfOk result (λ n. next_told n ≡ next.first_step (reads.changing_steps self.now)) }
     {
@@ -136,7 +135,7 @@ impl<'a> Reading<'a> {
     }
 
     fn read_pod(&self) -> Result<Option<Next>, Memory>
-        requires marked { IsMarked self.now.job.now.views.pods self.now.object.now self.now.marks.now }
+        requires marked { reads.KnowsPods self.now }
         ensures { IfOk result (λ step. step_told step ≡ reads.read_pod self.now) }
     {
         match self.first_unlooked() {
@@ -161,7 +160,7 @@ impl<'a> Reading<'a> {
     }
 
     fn settle(&self) -> Result<Option<Next>, Memory>
-        requires marked { IsMarked self.now.job.now.views.pods self.now.object.now self.now.marks.now }
+        requires marked { reads.KnowsPods self.now }
         ensures { IfOk result (λ step. step_told step ≡ reads.settle self.now) }
     {
         match self.first_finished() {
@@ -261,7 +260,7 @@ impl<'a> Reading<'a> {
     // ---- changes of other objects
 
     fn create_one(&self) -> Result<Option<Next>, Memory>
-        requires marked { IsMarked self.now.job.now.views.pods self.now.object.now self.now.marks.now }
+        requires marked { reads.KnowsPods self.now }
         ensures { IfOk result (λ step. step_told step ≡ reads.create_one self.now) }
     {
         match self.first_noted() {

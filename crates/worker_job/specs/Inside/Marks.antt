@@ -17,6 +17,7 @@ use Rattle.worker_job.specs.declared.marks.Marks.{Marks}
 use Rattle.worker_job.specs.declared.marks.Read.{Read}
 use Rattle.worker_job.specs.declared.marks.Read.TheVariants.{First, AllBut}
 use Rattle.worker_job.specs.declared.marks.Sought.{Sought}
+use Rattle.worker_job.specs.declared.marks.Found.{Found}
 use Rattle.worker_job.specs.declared.marks.Sought.TheVariants.{Unread, Ended, Absent}
 
 -- the name of a pod that is asked for
@@ -95,6 +96,20 @@ pub record IsMarked (ls : List Look) (f : Flow) (k : Marks) : Type 0 where
 abbrev pub MarksFit : List Look → Option Flow → Marks → Type 0
 MarksFit ls None k = Unit {0}
 MarksFit ls (Some f) k = IsMarked ls f k
+
+-- ---- the first such pod, where it is kept
+
+-- where one is kept, it is this
+pub record IsOf (sought : Sought) (pod : Want) (found : Option Found) : Type 0 where
+  pub is : (x : Found) → found ≡ Some x → x ≡ record { sought = sought; want = pod }
+
+-- where one is kept, it is the first such pod that is asked for
+pub record FoundIs (ls : List Look) (f : Flow) (found : Option Found) : Type 0 where
+  pub first : (x : Found) → found ≡ Some x → find (such x.sought ls f) (pods_in (wants_of f)) ≡ Some x.want
+
+-- of the workflow, where it was read
+pub record FoundFits (ls : List Look) (flow : Option Flow) (found : Option Found) : Type 0 where
+  pub of : (f : Flow) → flow ≡ Some f → FoundIs ls f found
 
 abbrev pub none : Marks
 none = record { read = First 0; settled = 0; created = 0 }

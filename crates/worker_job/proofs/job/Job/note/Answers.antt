@@ -7,8 +7,8 @@ use Rattle.worker_job.specs.Inside.Marks.{MarksFit, after}
 use Rattle.worker_job.proofs.Marked.{look_with, marks_after}
 use Rattle.worker_job.proofs.job.Job.note.Goals as goal
 
-pub marks_behind-requires : goal.marks_behind-requires
-marks_behind-requires c =
+pub marks_behind-marks-requires : goal.marks_behind-marks-requires
+marks_behind-marks-requires c =
     let told : map look_told c.add.new.self ≡ look_with c.args.name c.args.found ∷ looks_of c.self.inside = ap (map look_told) c.in_ok-add.ensures in
     let marks : c.after-marks.result ≡ after c.args.name c.args.found c.self.inside.marks = c.after-marks.ensures ∙ ap (after c.args.name c.args.found) c.replace.ensures.value in
     subst (λ (ls : List Look). MarksFit ls (flow_of c.self.inside) c.after-marks.result) (sym told)

@@ -9,6 +9,7 @@ pub invariant_of-self : goal.invariant_of-self
 invariant_of-self c = record {
   kept = search rules;
   marked = c.self.invariant.marked;
+  found = c.self.invariant.found;
   to_save = c.self.invariant.to_save;
   to_file = subst (λ (j : OneJob). FilingFits c.args.to_file j.workflow j.views.flow (book_seen c.args.snapshot)) (sym c.self.view_is) c.requires.to_file;
 }

@@ -13,6 +13,7 @@ pub invariant_of-self : goal.invariant_of-self
 invariant_of-self c = record {
   kept = search rules;
   marked = search rules;
+  found = search rules;
   to_save = unknown_fits kind.Save (is_left c.self.inside.workflow) c.unknown.result (flow_seen c.args.snapshot) _ c.unknown.ensures;
   to_file = filing_by c.args.filed c.self.inside.workflow (flow_seen c.args.snapshot) _ c.nothing_if.result c.nothing_if.ensures
       (subst (λ (j : OneJob). FiledFits c.args.filed j.workflow (flow_seen c.args.snapshot) j.views.book) (sym c.self.view_is) c.requires.filed);
