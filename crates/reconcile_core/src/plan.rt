@@ -12,7 +12,7 @@ ghost use Rattle.reconcile_core.specs.Plans.{IsNext, IsPlan, Plans};
 use base_types::{Memory, Shared, Text, TryCopy};
 use memo_cache::{Cache, SaveRefused};
 use next_laws::laws::act_is_new;
-use sync_locks::{FileRefused, LockBook};
+use sync_locks::{FileRefused, LockBook, ReleaseRefused};
 use tree_types::{Entry, Fact, HolderKey, LockId, Outputs, Path, Rank};
 use wf_object::{PodObject, TreeRefused, WfContent};
 use worker_job::{Job, Matter, Resubmission};
@@ -102,10 +102,11 @@ fn released(book: &LockBook, key: &HolderKey) -> Result<LockBook, Memory>
     ensures { IfOk result (λ next. next ≡ with_freed key.now book.now) }
 {
     let mut next = book.copy()?;
-    let Ok(()) = next.release(key) else {
-        unreachable!()
-    };
-    Ok(next)
+    match next.release(key) {
+        Ok(()) => Ok(next),
+        Err(ReleaseRefused::Memory) => Err(Memory),
+        Err(ReleaseRefused::NotHolding) => unreachable!(),
+    }
 }
 
 // A lock is released in a copy of the book.
