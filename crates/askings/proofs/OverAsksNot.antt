@@ -72,14 +72,14 @@ module _ (m : Manifest) (A : Answers) (whole : List Line) where
     begins = λ p. (tt, tt);
     stands = λ n ls i u g. (tt, g);
     pod = λ p e g f. (tt, (g, tt));
-    lock = λ p k l x e f. (tt, (tt, tt));
+    lock = λ p k l x e u f. (tt, (tt, tt));
     look = λ p k c key e f. (tt, (tt, tt));
     arming = λ p a e f. (tt, (tt, tt));
     timer = λ p sc duration armed seconds own a e d r f. (tt, (tt, tt));
     resting = λ p armed a e d. (tt, tt);
     retry = λ p last tick ls x d t g f. (tt, every_append Kept ls (Asks (want.Timer _ tick) ∷ []) g (tt, tt));
     save = λ n p o c sc key ls own r e x s y z g f. (tt, (tt, g));
-    root = λ l e f. (tt, (tt, tt));
+    root = λ l e u f. (tt, (tt, tt));
     own = λ e. tt;
     guarded = λ p b e t q f h. guarded_kept p b t q f h (fulfilled b.own.node.phase) refl;
   }

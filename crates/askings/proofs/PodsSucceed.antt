@@ -29,14 +29,14 @@ module _ (A : Answers) where
     begins = λ p. (tt, tt);
     stands = λ n ls i u g. (i.succeeded, g);
     pod = λ p e g f. ((λ k r. absurd (cc r)), (tt, tt));
-    lock = λ p k l x e f. ((λ y r. absurd (cc r)), (tt, tt));
+    lock = λ p k l x e u f. ((λ y r. absurd (cc r)), (tt, tt));
     look = λ p k c key e f. ((λ y r. absurd (cc r)), (tt, tt));
     arming = λ p a e f. ((λ k r. absurd (cc k)), (tt, tt));
     timer = λ p sc duration armed seconds own a e d r f. ((λ k r. absurd (cc k)), (tt, tt));
     resting = λ p armed a e d. ((λ k r. absurd (cc k)), tt);
     retry = λ p last tick ls x d t g f. ((λ y r. absurd (cc y)), every_append Succeeds ls (Asks (want.Timer _ tick) ∷ []) g (tt, tt));
     save = λ n p o c sc key ls own r e x s y z g f. (z, (tt, g));
-    root = λ l e f. ((λ k r. absurd (cc r)), (tt, tt));
+    root = λ l e u f. ((λ k r. absurd (cc r)), (tt, tt));
     own = λ e. tt;
     guarded = λ p b e t q f h. h tt;
   }

@@ -129,7 +129,7 @@ module _ (m : Manifest) (A : Answers) (whole : List Line) where
     begins = λ p. (tt, tt);
     stands = λ n ls i u g. (idle_served (wants_in ls) n i u, g);
     pod = λ p e g f. (pod_served m A (nodes_in whole) (want.Pod (path p.sels) ∷ []) p, (tt, tt));
-    lock = λ p k l x e f. (pending_served m A (nodes_in whole) (want.Lock (path p.sels) l ∷ []) (node p k Pending (note.Waiting l) no_outputs) refl, (tt, tt));
+    lock = λ p k l x e u f. (pending_served m A (nodes_in whole) (want.Lock (path p.sels) l ∷ []) (node p k Pending (note.Waiting l) no_outputs) refl, (tt, tt));
     look = λ p k c key e f. (pending_served m A (nodes_in whole) (want.LookUp (path p.sels) c.cache key c.max_age ∷ []) (node p k Pending (note.Looking c.cache) no_outputs) refl, (tt, tt));
     arming = λ p a e f. (suspended_served (want.Arming (path p.sels) ∷ []) p (λ duration armed d x. absurd (cc (e, x))), (tt, tt));
     timer = λ p sc duration armed seconds own a e d r f. (
@@ -151,7 +151,7 @@ module _ (m : Manifest) (A : Answers) (whole : List Line) where
         let w : Want = want.Save (path p) c.cache key o in
         let asks : Among (want.Save n.path c.cache key n.outputs) (w ∷ wants_in ls) = inl (λ i. want.Save (sym e i) c.cache key (sym x i)) in
         (saved_served (w ∷ wants_in ls) n p c e s y (record { scope = sc; is_scope = own; key = key; read = r; asked = asks }), (tt, all_more m A (nodes_in whole) (wants_in ls) (w ∷ wants_in ls) ls (λ v a. inr a) g)));
-    root = λ l e f. (pending_served m A (nodes_in whole) (want.Lock (path []) l ∷ []) (pending_root m (note.Waiting l)) refl, (tt, tt));
+    root = λ l e u f. (pending_served m A (nodes_in whole) (want.Lock (path []) l ∷ []) (pending_root m (note.Waiting l)) refl, (tt, tt));
     own = λ e. tt;
     guarded = λ p b e t q f h. h tt;
   }

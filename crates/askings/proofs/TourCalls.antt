@@ -156,7 +156,7 @@ module _ (m : Manifest) (A : Answers) (whole : List Line) (T : Tour m A whole) (
       behind_good p s fits stood w k g f = T.guarded p (memoized p s) g (topped_headed A p (memoized p s) (memo_topped paths A m flow run (all_fit m.templates) sound t fits p s t.memoize)) (memo_quiet p s fits) f (λ h. memo_good p s (record { stood = stood; within = w; here = h }) k t.memoize refl f)
 
       locked_good : (p : Place) (s : Scope) → TemplateFits paths t → Stood m p.sels (of_template t hook) → Within T.Known p.sels → IsTemplateScope m A s → (l : LockId) → t.lock ≡ Some l → (b : Bool) → A.granted p.sels ≡ b → GoodPart (lines_in (locked A run p s t l b))
-      locked_good p s fits stood w k l e false g f = T.lock p (kind_of t) l (stood_not_empty m p.sels (of_template t hook) stood) (stood_lock m p.sels (of_template t hook) stood ∙ e) f
+      locked_good p s fits stood w k l e false g f = T.lock p (kind_of t) l (stood_not_empty m p.sels (of_template t hook) stood) (stood_lock m p.sels (of_template t hook) stood ∙ e) g f
       locked_good p s fits stood w k l e true g f = behind_good p s fits stood w k (λ x c. g) f
 
       template_good : (p : Place) (s : Scope) → TemplateFits paths t → Stood m p.sels (of_template t hook) → Within T.Known p.sels → IsTemplateScope m A s → (o : Option LockId) → t.lock ≡ o → GoodPart (lines_in (template_by A run p s t o))
@@ -331,7 +331,7 @@ module _ (m : Manifest) (A : Answers) (T : Tour m A (lines m A)) where
   GoodLines ls = Part (lines m A) ls → T.Good ls
 
   locked_tour : (l : LockId) → m.lock ≡ Some l → (b : Bool) → A.granted [] ≡ b → GoodLines (lines_locked m A l b)
-  locked_tour l e false g f = T.root l e f
+  locked_tour l e false g f = T.root l e g f
   locked_tour l e true g f = running_good m A (lines m A) T (T.own (λ x c. g)) f
 
   started_tour : (o : Option LockId) → m.lock ≡ o → GoodLines (lines_started m A o)

@@ -121,7 +121,7 @@ pub record Tour (m : Manifest) (A : Answers) (whole : List Line) : Type 1 where
   pub stands : (n : Node) (ls : List Line) → Idle A whole n → Unsaved m A n → Good ls → Good (Stands n ∷ ls)
   -- what a node asks for
   pub pod : (p : Place) → A.outcome p ≡ None → Guarded Known p.sels → Part whole (lines_in (running_pod p)) → Good (lines_in (running_pod p))
-  pub lock : (p : Place) (k : Kind) (l : LockId) → (p.sels ≡ [] → ⊥) → lock_at m p.sels ≡ Some l → let n : Node = node p k Pending (note.Waiting l) no_outputs in let w : Want = want.Lock (path p.sels) l in Part whole (asking n w) → Good (asking n w)
+  pub lock : (p : Place) (k : Kind) (l : LockId) → (p.sels ≡ [] → ⊥) → lock_at m p.sels ≡ Some l → A.granted p.sels ≡ false → let n : Node = node p k Pending (note.Waiting l) no_outputs in let w : Want = want.Lock (path p.sels) l in Part whole (asking n w) → Good (asking n w)
   pub look : (p : Place) (k : Kind) (c : Memoize) (key : List ℕ) → memo_at m p.sels ≡ Some c → let n : Node = node p k Pending (note.Looking c.cache) no_outputs in let w : Want = want.LookUp (path p.sels) c.cache key c.max_age in Part whole (asking n w) → Good (asking n w)
   pub arming : (p : Place) → is_attempt p.sels ≡ false → A.armed p.sels ≡ None → let n : Node = node p kind.Suspend Running note.None no_outputs in let w : Want = want.Arming (path p.sels) in Part whole (asking n w) → Good (asking n w)
   pub timer : (p : Place) (s : Scope) (duration : List TagPart) (armed seconds : ℕ) → IsTemplateScope m A s → is_attempt p.sels ≡ false → A.armed p.sels ≡ Some armed → duration_at m p.sels ≡ Some duration → seconds_of s (Some duration) ≡ Ok (Some seconds) → let n : Node = node p kind.Suspend Running note.None no_outputs in let w : Want = want.Timer (path p.sels) (later armed seconds) in Part whole (asking n w) → Good (asking n w)
@@ -129,7 +129,7 @@ pub record Tour (m : Manifest) (A : Answers) (whole : List Line) : Type 1 where
   pub retry : (p : Place) (last tick : ℕ) (ls : List Line) → let n : Node = node p kind.Retry Running note.None no_outputs in let w : Want = want.Timer (path (p.sels ++ Attempt (suc last) ∷ [])) tick in AttemptStands (nodes_in whole) n last → NextDue m A n last tick → Every Trial ls → Good ls → Part whole (Stands n ∷ (ls ++ Asks w ∷ [])) → Good (Stands n ∷ (ls ++ Asks w ∷ []))
   pub save : (n : Node) (p : Sels) (o : Outputs) (c : Memoize) (s : Scope) (key : List ℕ) (ls : List Line) → IsTemplateScope m A s → said s c.key ≡ Ok key → n.path ≡ path p → n.outputs ≡ o → n.phase ≡ Succeeded → memo_at m p ≡ Some c → SucceededByOutcome A n → Good ls → Part whole (Stands n ∷ ls) → Good (Stands n ∷ Asks (want.Save (path p) c.cache key o) ∷ ls)
   -- the workflow's own lock
-  pub root : (l : LockId) → m.lock ≡ Some l → let n : Node = pending_root m (note.Waiting l) in let w : Want = want.Lock (path []) l in Part whole (asking n w) → Good (asking n w)
+  pub root : (l : LockId) → m.lock ≡ Some l → A.granted [] ≡ false → let n : Node = pending_root m (note.Waiting l) in let w : Want = want.Lock (path []) l in Part whole (asking n w) → Good (asking n w)
   pub own : LockGranted m A [] → Known []
   -- a node whose lock, if it has one, is granted, and what stands below it
   pub guarded : (p : Place) (b : Made) → LockGranted m A p.sels → Headed p b → (b.own.finished ≡ true → Every Quiet (lines_in b)) → Part whole (lines_in b) → (Known p.sels → Good (lines_in b)) → Good (lines_in b)

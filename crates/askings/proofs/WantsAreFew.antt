@@ -55,14 +55,14 @@ few m A whole = record {
   begins = λ p. omega arith;
   stands = λ n ls i u g. more_nodes n ls g;
   pod = λ p e g f. omega arith;
-  lock = λ p k l x e f. omega arith;
+  lock = λ p k l x e u f. omega arith;
   look = λ p k c key e f. omega arith;
   arming = λ p a e f. omega arith;
   timer = λ p sc duration armed seconds own a e d r f. omega arith;
   resting = λ p armed a e d. omega arith;
   retry = λ p last tick ls x d t g f. one_behind (node p kind.Retry Running note.None no_outputs) (want.Timer (path (p.sels ++ Attempt (suc last) ∷ [])) tick) ls g;
   save = λ n p o c sc key ls own r e x s y z g f. one_each n (want.Save (path p) c.cache key o) ls g;
-  root = λ l e f. omega arith;
+  root = λ l e u f. omega arith;
   own = λ e. tt;
   guarded = λ p b e t q f h. h tt;
 }
