@@ -1,16 +1,13 @@
 -- What stands below a node, chunk by chunk.
-use Rattle.std.proofs.Common.{◌≡◌, ℕ, zero, suc, ◌+◌, ◌<◌, ◌≤◌, length, get_or, drop, arith, List, [], ◌∷◌, ◌++◌, Bool, subst, Option, Some, None, refl, sym, ap, ◌∙◌}
+use Rattle.std.proofs.Common.{◌≡◌, ℕ, zero, suc, ◌+◌, ◌<◌, ◌≤◌, length, get_or, drop, arith, List, [], ◌∷◌, ◌++◌, subst, Option, Some, None, refl, sym, ap, ◌∙◌}
 use Rattle.std.proofs.lemmas.List.{drop_all}
 use Rattle.std.specs.Option.{option_or}
 use Rattle.std.specs.declared.sync.Arc.{Arc}
 use Rattle.std.specs.declared.alloc.Global.{Global}
 use Rattle.meaning.specs.declared.lines.Line.{Line}
 use Rattle.meaning.specs.Lines.{Parts, nothing, call, may_begin, asks, Made, then_parts, row_in, lines_below, lines_over, lines_in}
-use Rattle.std.specs.Prelude.{◌||◌, ◌&&◌}
 use Rattle.std.specs.List.{Contains}
-use Rattle.std.proofs.lemmas.List.Folds.{list_any-append, list_all-append}
 use Rattle.std.proofs.lemmas.List.Elements.{Contains-append_left, Contains-append_right}
-use Rattle.tree_types.specs.Phases.{is_succeeded, is_failed}
 use Rattle.tree_types.specs.declared.node.Node.{Node}
 use Rattle.meaning.specs.Trees.{node_in, nodes_in}
 use Rattle.meaning.proofs.Flattening.{lines_then, row_in_then}
@@ -19,7 +16,7 @@ use Rattle.tree_state.specs.Telling.{told_with}
 use Rattle.tree_state.specs.Finding.{sooner}
 use Rattle.tree_state.proofs.Readings.{timer_among, timers_then, sooner_moves}
 use Rattle.tree_state.proofs.Tellings.{told_then, filter_append}
-use Rattle.tree_state.specs.Replacing.{call_at, replaced, some_succeeded, all_fell}
+use Rattle.tree_state.specs.Replacing.{call_at, replaced}
 use Rattle.tree_state.specs.Inside.Kids.{replaced_by}
 use Rattle.tree_state.specs.Inside.Chunks.{all_of}
 use Rattle.tree_state.proofs.Kids.{from_here, then_moves, then_nothing}
@@ -97,21 +94,6 @@ pub row_read : (cs : List (Arc Parts Global)) (last : Parts) (i : ℕ) (c : Arc 
     row_in c.value ++ row_in (then_parts (all_of (drop (i + 1) cs)) last) ≡ row_in (then_parts (all_of (drop i cs)) last)
 row_read cs last i c lt is =
     sym (row_in_then c.value (then_parts (all_of (drop (i + 1) cs)) last)) ∙ ap (λ (p : Parts). row_in p) (sym (chunks_from cs last i c lt is))
-
-module _ (join : Bool → Bool → Bool) (f : List Made → Bool) (fs : (a b : List Made) → f (a ++ b) ≡ join (f a) (f b)) where
-  pub row_tested : (cs : List (Arc Parts Global)) (last : Parts) (i : ℕ) (c : Arc Parts Global) (b all : Bool) → i < length cs → c ≡ get_or cs i c → b ≡ f (row_in c.value) →
-      f (row_in (then_parts (all_of (drop i cs)) last)) ≡ all → join b (f (row_in (then_parts (all_of (drop (i + 1) cs)) last))) ≡ all
-  row_tested cs last i c b all lt is here was =
-      ap (λ (x : Bool). join x (f (row_in (then_parts (all_of (drop (i + 1) cs)) last)))) here
-      ∙ sym (fs (row_in c.value) (row_in (then_parts (all_of (drop (i + 1) cs)) last)))
-      ∙ ap f (row_read cs last i c lt is)
-      ∙ was
-
-pub some_then : (a b : List Made) → some_succeeded (a ++ b) ≡ (some_succeeded a || some_succeeded b)
-some_then a b = list_any-append (λ (m : Made). is_succeeded m.own.node.phase) a b
-
-pub fell_then : (a b : List Made) → all_fell (a ++ b) ≡ (all_fell a && all_fell b)
-fell_then a b = list_all-append (λ (m : Made). is_failed m.own.node.phase) a b
 
 -- ---- telling, and timers
 

@@ -79,6 +79,27 @@ pub replaces_all : (kids : List Kid) (i : ℕ) (chunk rest target : Parts) (left
 replaces_all kids i chunk rest target left wanted end was =
     ap (λ (ks : List Kid). then_parts chunk (replaced_by (then_parts (parts_of ks) rest) left wanted)) (sym (drop_all i kids end)) ∙ was
 
+-- ---- kid by kid, copied
+
+pub copies_next : (kids : List Kid) (i : ℕ) (k new : Kid) (copied after : List Kid) → i < length kids → k ≡ get_or kids i k →
+    ((more : Parts) → kid_before new more ≡ kid_before k more) → after ≡ copied ++ new ∷ [] →
+    then_parts (parts_of copied) (parts_of (drop i kids)) ≡ parts_of kids → then_parts (parts_of after) (parts_of (drop (i + 1) kids)) ≡ parts_of kids
+copies_next kids i k new copied after lt is same added was =
+    let more = parts_of (drop (i + 1) kids) in
+    ap (λ (ks : List Kid). then_parts (parts_of ks) more) added
+    ∙ ap (λ (p : Parts). then_parts p more) (pushed copied new)
+    ∙ then_kid (parts_of copied) new more
+    ∙ ap (λ (p : Parts). then_parts (parts_of copied) p) (same more)
+    ∙ ap (λ (ks : List Kid). then_parts (parts_of copied) (parts_of ks)) (sym (from_here kids i k lt is))
+    ∙ was
+
+pub copies_all : (kids copied : List Kid) (i : ℕ) → length kids ≤ i →
+    then_parts (parts_of copied) (parts_of (drop i kids)) ≡ parts_of kids → parts_of copied ≡ parts_of kids
+copies_all kids copied i end was =
+    sym (then_nothing (parts_of copied))
+    ∙ ap (λ (ks : List Kid). then_parts (parts_of copied) (parts_of ks)) (sym (drop_all i kids end))
+    ∙ was
+
 -- nothing is replaced
 pub unchanged : (chunk old : Parts) (left : ℕ) (o : Option Made) → then_parts chunk (replaced_by nothing left o) ≡ then_parts old nothing → chunk ≡ old
 unchanged chunk old left o is = sym (then_nothing chunk) ∙ ap (λ (p : Parts). then_parts chunk p) (sym (none_left o)) ∙ is ∙ then_nothing old

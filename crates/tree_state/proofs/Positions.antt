@@ -1,5 +1,5 @@
 -- Pods, counted, and found from a position on.
-use Rattle.std.proofs.Common.{◌≡◌, ℕ, suc, ◌+◌, ◌^◌, ◌<◌, ◌≤◌, length, length-append, get_or, drop, List, [], ◌∷◌, ◌++◌, Bool, true, false, cond, Option, Some, None, refl, sym, ap, ◌∙◌, arith}
+use Rattle.std.proofs.Common.{◌≡◌, ℕ, suc, ◌+◌, ◌^◌, ◌<◌, ◌≤◌, length, length-append, get_or, drop, List, [], ◌∷◌, ◌++◌, Bool, true, false, cond, Option, Some, None, refl, sym, ap, subst, ◌∙◌, arith}
 use Rattle.std.specs.Prelude.{◌&&◌, nat_le}
 use Rattle.std.specs.Option.{option_or}
 use Rattle.std.proofs.lemmas.Bool.{lt-leb}
@@ -154,3 +154,9 @@ module _ (from : ℕ) (p : Want → Bool) (all : Option (ℕ × Want)) (end at :
 
     pub kid_next : None ≡ found_at from at p (pods_among (lines_below (kid_parts k))) → Left from p all end (at + n) (pods_among (lines_below (parts_of (drop (i + 1) kids))))
     kid_next = rest_left from p all end at (pods_among (lines_below (parts_of (drop i kids)))) (pods_among (lines_below (kid_parts k))) (pods_among (lines_below (parts_of (drop (i + 1) kids)))) (kids_from kids i k lt is) left n counted
+
+    pub kid_passes : n ≡ 0 → Left from p all end at (pods_among (lines_below (parts_of (drop (i + 1) kids))))
+    kid_passes none =
+        let stays : at + n ≡ at = omega (arith, none) in
+        subst (λ (m : ℕ). Left from p all end m (pods_among (lines_below (parts_of (drop (i + 1) kids))))) stays
+        (kid_next (sym (found_none from p at (pods_among (lines_below (kid_parts k))) (sym counted ∙ none))))

@@ -1,5 +1,5 @@
 -- What is kept of lines, where lines are put together.
-use Rattle.std.proofs.Common.{Option, ◌≡◌, ℕ, suc, ◌+◌, ◌<◌, length, length-append, get_or, take, List, [], ◌∷◌, ◌++◌, Bool, true, ◌||◌, Some, None, sym, ap, ap₂, ◌∙◌, arith}
+use Rattle.std.proofs.Common.{Option, ◌≡◌, ℕ, ◌+◌, ◌<◌, length, length-append, get_or, take, List, [], ◌∷◌, ◌++◌, Bool, true, ◌||◌, None, sym, ap, ap₂, ◌∙◌}
 use Rattle.std.proofs.lemmas.List.{map-append, take_more}
 use Rattle.std.specs.Prelude.{map}
 use Rattle.std.specs.declared.sync.Arc.{Arc}
@@ -20,9 +20,9 @@ use Rattle.tree_state.specs.declared.sum.Sum.{Sum}
 use Rattle.tree_state.specs.declared.state.Line.{Line as Line'}
 use Rattle.tree_state.specs.declared.state.Kid.{Kid}
 use Rattle.tree_state.specs.Inside.Kids.{line_then, state_then, kid_parts, parts_of}
-use Rattle.tree_state.specs.Inside.Lower.{line_alone}
 use Rattle.tree_state.specs.Asking.{is_of, ask_for}
-use Rattle.tree_state.specs.Counting.{count_below}
+use Rattle.tree_types.specs.Phases.{is_succeeded, is_failed}
+use Rattle.tree_state.specs.Replacing.{some_succeeded, all_fell}
 use Rattle.tree_state.specs.Inside.Sums.{let_begin, asks_in, both_ask, sum_of, sum_with}
 use Rattle.tree_state.proofs.Counts.{count_then}
 use Rattle.tree_state.proofs.Kids.{kid_then, pushed}
@@ -62,13 +62,12 @@ sum_then p q = λ i. record {
   nodes = count_then p q i;
   calls = (ap (λ (ms : List Made). length ms) (row_in_then p q) ∙ length-append (row_in p) (row_in q)) i;
   finished = (ap (λ (ms : List Made). all_finished ms) (row_in_then p q) ∙ list_all-append (λ (m : Made). m.own.finished) (row_in p) (row_in q)) i;
+  succeeded = (ap (λ (ms : List Made). some_succeeded ms) (row_in_then p q) ∙ list_any-append (λ (m : Made). is_succeeded m.own.node.phase) (row_in p) (row_in q)) i;
+  fell = (ap (λ (ms : List Made). all_fell ms) (row_in_then p q) ∙ list_all-append (λ (m : Made). is_failed m.own.node.phase) (row_in p) (row_in q)) i;
   pods = counts_then Pod p q i;
   locks = counts_then Lock p q i;
   asks = (ap asks_in (lines_then p q) ∙ asks_then (lines_below p) (lines_below q)) i;
 }
-
-one_more : (n : ℕ) → suc (n + 0) ≡ suc n
-one_more n = omega arith
 
 -- ---- what is kept, once a kid is added
 
@@ -81,24 +80,12 @@ kid_kept kids k s new sum was is given =
 pub both_kept : (p q : Parts) (s new sum : Sum) → s ≡ sum_of p → new ≡ sum_of q → sum ≡ sum_with s new → sum ≡ sum_of (then_parts p q)
 both_kept p q s new sum was is given = given ∙ ap₂ sum_with was is ∙ sym (sum_then p q)
 
--- ---- what a kid asks for, and how many nodes it has
-
-alone_counted : (s : Option (Arc Made Global)) (n : ℕ) → n ≡ count_below (state_then s nothing) → (l : Option (Arc Line' Global)) → n ≡ count_below (line_then l (state_then s nothing))
-alone_counted s n is None = is
-alone_counted s n is (Some l) = is ∙ sym (line_alone l.value (state_then s nothing))
-
-pub kid_counted : (k : Kid) (n : ℕ) → n ≡ count_below (state_then k.state nothing) → n ≡ count_below (kid_parts k)
-kid_counted k n is = alone_counted k.state n is k.line
-
-pub no_more : (n : ℕ) → suc n ≡ suc (n + 0)
-no_more n = sym (one_more n)
-
-pub kid_asks : (k : Kid) (a b : Asks) → a ≡ asks_in (lines_below (line_then k.line nothing)) → b ≡ asks_in (lines_below (state_then k.state nothing)) → both_ask a b ≡ asks_in (lines_below (kid_parts k))
-kid_asks k a b own call =
-    ap₂ both_ask own call
-    ∙ sym (asks_then (lines_below (line_then k.line nothing)) (lines_below (state_then k.state nothing)))
-    ∙ ap asks_in (sym (lines_then (line_then k.line nothing) (state_then k.state nothing)))
-    ∙ ap (λ (p : Parts). asks_in (lines_below p)) (kid_then k.line None nothing (state_then k.state nothing))
+-- a kid's line, and its call
+pub kid_summed : (l : Option (Arc Line' Global)) (s : Option (Arc Made Global)) (own call sum : Sum) → own ≡ sum_of (line_then l nothing) → call ≡ sum_of (state_then s nothing) →
+    sum ≡ sum_with own call → sum ≡ sum_of (line_then l (state_then s nothing))
+kid_summed l s own call sum one other given =
+    both_kept (line_then l nothing) (state_then s nothing) own call sum one other given
+    ∙ ap sum_of (kid_then l None nothing (state_then s nothing))
 
 -- ---- the wants of a node, one after the other
 

@@ -210,20 +210,14 @@ impl Below {
     pub(crate) fn some_succeeded(&self) -> bool
         ensures { result ≡ some_succeeded (row_in self.now) }
     {
-        match &self.filled {
-            None => false,
-            Some(filled) => filled.some_succeeded(),
-        }
+        self.sum().succeeded
     }
 
     // Whether all calls Failed.
     pub(crate) fn all_fell(&self) -> bool
         ensures { result ≡ all_fell (row_in self.now) }
     {
-        match &self.filled {
-            None => true,
-            Some(filled) => filled.all_fell(),
-        }
+        self.sum().fell
     }
 
     /// The same over another call at this position. All other calls are shared, and all chunks but that of the call and the last.

@@ -7,7 +7,7 @@ ghost use Rattle.meaning.specs.Lines.{nothing, then_parts, row_in, lines_below, 
 ghost use Rattle.meaning.specs.Trees.{nodes_in, wants_in, beginnings_in};
 ghost use Rattle.tree_state.specs.Asking.{is_of, first};
 ghost use Rattle.tree_state.specs.Finding.{passes, next_tick, pods_in, found_at};
-ghost use Rattle.tree_state.specs.Replacing.{call_at, some_succeeded, all_fell};
+ghost use Rattle.tree_state.specs.Replacing.{call_at};
 ghost use Rattle.tree_state.specs.Telling.{told_with};
 ghost use Rattle.tree_state.specs.Inside.Kids.{kid_parts, replaced_by};
 ghost use Rattle.tree_state.specs.Inside.Sums.{sum_of};
@@ -22,8 +22,9 @@ use std::marker::Model;
 use std::sync::Arc;
 use tree_types::{Node, Path, Phase, Want};
 
-// How many kids a chunk has.
-const ROOM: usize = 32;
+// How many kids a chunk has: as many as lie in less than the thousand and some bytes above which the C library takes a request
+// for a large one, and first merges all that was freed.
+const ROOM: usize = 31;
 
 /// Some of what stands below a node, in tree order, which versions of the node share.
 #[cycle(state)]
@@ -133,10 +134,14 @@ impl Chunk {
     pub(crate) fn copy(&self) -> Result<Chunk, Memory>
         ensures { IfOk result (λ chunk. chunk ≡ self.now) }
     {
-        let mut left = 0;
-        let mut call = None;
-        let chunk = self.or_replaced(&mut left, &mut call)?;
-        Ok(chunk)
+        let mut kids = Vec::with_capacity(self.allocator(), self.kids.len())?;
+        for kid in &self.kids {
+            kids.push(kid.shared()?)?;
+        }
+        Ok(Chunk {
+            kids,
+            sum: self.sum,
+        })
     }
 
     /// The chunk, with the call in its place if it is the one to be replaced: the one behind so many calls that are left.
@@ -154,6 +159,22 @@ impl Chunk {
             chunk.add(kid.or_replaced(left, call)?)?;
         }
         Ok(chunk)
+    }
+
+    /// The same, where the call may be in its place already.
+    pub(crate) fn copied_or_replaced(
+        &self,
+        left: &mut usize,
+        call: &mut Option<State>,
+    ) -> Result<Chunk, Memory>
+        ensures { IfOk result (λ chunk. (rest : Parts) →
+            then_parts chunk (replaced_by rest left.new call.new)
+            ≡ replaced_by (then_parts self.now rest) left.old call.old) }
+    {
+        if call.is_none() {
+            return self.copy();
+        }
+        self.or_replaced(left, call)
     }
 
     /// The call of this position among the calls of the chunk.
@@ -193,34 +214,6 @@ impl Chunk {
             }
         }
         Ok(())
-    }
-
-    // Whether some call Succeeded.
-    pub(crate) fn some_succeeded(&self) -> bool
-        ensures { result ≡ some_succeeded (row_in self.now) }
-    {
-        for kid in &self.kids {
-            if let Some(state) = &kid.state {
-                if state.phase() == Phase::Succeeded {
-                    return true;
-                }
-            }
-        }
-        false
-    }
-
-    // Whether all calls Failed.
-    pub(crate) fn all_fell(&self) -> bool
-        ensures { result ≡ all_fell (row_in self.now) }
-    {
-        for kid in &self.kids {
-            if let Some(state) = &kid.state {
-                if state.phase() != Phase::Failed {
-                    return false;
-                }
-            }
-        }
-        true
     }
 
     #[cycle(first_want)]
@@ -325,10 +318,14 @@ impl Chunk {
         }
         let mut next = at;
         for kid in &self.kids {
+            let pods = kid.pods();
+            if pods == 0 {
+                continue;
+            }
             if let Some(found) = kid.find_pod_at(next, from, test) {
                 return Some(found);
             }
-            next += kid.pods();
+            next += pods;
         }
         None
     }

@@ -51,7 +51,7 @@ impl Clue<'_> {
     // Whether a node is likely to be the one that is looked for, or to stand above it.
     pub(crate) fn leads_through(&self, node: &Node) -> bool {
         match self {
-            Clue::Path(path) => path.starts_with(node.path.sels.as_slice()),
+            Clue::Path(path) => leads_by(node.path.sels.as_slice(), path),
             Clue::Name(name) => match name.as_str().strip_prefix(node.name.as_str()) {
                 None => false,
                 Some(behind) => is_suffix(behind.as_bytes()),
@@ -71,6 +71,14 @@ impl Clue<'_> {
                 Some(behind) => number_in(behind.as_bytes()),
             },
         }
+    }
+}
+
+// Whether a path ends as another goes on there. What stands beside it differs from it in its last selector alone.
+fn leads_by(sels: &[Sel], path: &[Sel]) -> bool {
+    match (sels.last(), path.get(sels.len().saturating_sub(1))) {
+        (Some(last), Some(sel)) => *last == *sel,
+        _ => false,
     }
 }
 

@@ -6,7 +6,7 @@ ghost use Rattle.meaning.specs.Lines.{nothing, row_in, then_parts, lines_below};
 ghost use Rattle.meaning.specs.Trees.{nodes_in, wants_in, beginnings_in};
 ghost use Rattle.tree_state.specs.Asking.{is_of, first};
 ghost use Rattle.tree_state.specs.Finding.{passes, next_tick, pods_in, found_at};
-ghost use Rattle.tree_state.specs.Replacing.{call_at, replaced, some_succeeded, all_fell};
+ghost use Rattle.tree_state.specs.Replacing.{call_at, replaced};
 ghost use Rattle.tree_state.specs.Telling.{told_with};
 ghost use Rattle.tree_state.specs.Inside.Kids.{kid_parts};
 ghost use Rattle.tree_state.specs.Inside.Sums.{sum_of};
@@ -153,30 +153,6 @@ impl Filled {
         self.last.add_calls(calls)
     }
 
-    // Whether some call Succeeded.
-    pub(crate) fn some_succeeded(&self) -> bool
-        ensures { result ≡ some_succeeded (row_in self.now) }
-    {
-        for chunk in &self.full {
-            if chunk.some_succeeded() {
-                return true;
-            }
-        }
-        self.last.some_succeeded()
-    }
-
-    // Whether all calls Failed.
-    pub(crate) fn all_fell(&self) -> bool
-        ensures { result ≡ all_fell (row_in self.now) }
-    {
-        for chunk in &self.full {
-            if !chunk.all_fell() {
-                return false;
-            }
-        }
-        self.last.all_fell()
-    }
-
     /// The same over another call at this position. All other calls are shared, and all chunks but that of the call and the last.
     pub(crate) fn with_call(&self, position: usize, call: State) -> Result<Filled, Memory>
         ensures { IfOk result (λ below. below ≡ replaced self.now position call) }
@@ -191,7 +167,7 @@ impl Filled {
             sum = sum.and(chunk.sum())?;
             full.push(chunk)?;
         }
-        let last = self.last.or_replaced(&mut left, &mut call)?;
+        let last = self.last.copied_or_replaced(&mut left, &mut call)?;
         let sum = sum.and(last.sum())?;
         Ok(Filled { full, last, sum })
     }

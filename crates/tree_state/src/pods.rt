@@ -32,7 +32,7 @@ impl State {
     }
 
     // The same, and that there are not too many for a further one to be counted.
-    fn count_pods(&self) -> usize
+    pub(crate) fn count_pods(&self) -> usize
         ensures all { result ≡ length (pods_in (wants_in (lines_in self.now))) }
         ensures few { result < 2 ^ 63 + 2 ^ 32 }
     {

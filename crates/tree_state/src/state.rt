@@ -38,6 +38,18 @@ impl Line {
         }
     }
 
+    // What is kept of it.
+    fn sum(&self) -> Result<Sum, Memory>
+        ensures { IfOk result (λ sum. sum ≡ sum_of (own_line self.now lines.nothing)) }
+    {
+        Ok(Sum {
+            pods: small(self.count(WantKind::Pod))?,
+            locks: small(self.count(WantKind::Lock))?,
+            asks: self.asks(),
+            ..Sum::nothing()
+        })
+    }
+
     // What it asks for, if that is of this kind.
     fn want(&self, kind: WantKind) -> Option<&Want>
         ensures { option_copied result
@@ -244,6 +256,35 @@ impl State {
         asks_of_node(&self.wants).and(self.below.sum().asks)
     }
 
+    // What is kept of the call, as one that stands below a node. Most nodes ask for nothing.
+    pub(crate) fn sum(&self) -> Result<Sum, Memory>
+        ensures { IfOk result (λ sum. sum ≡ sum_of (lines.row_of (self.now ∷ []))) }
+    {
+        let below = self.below.sum();
+        if self.wants.is_empty() {
+            return Ok(Sum {
+                nodes: small(self.count())?,
+                pods: below.pods,
+                locks: below.locks,
+                calls: 1,
+                finished: self.finished,
+                succeeded: self.phase() == Phase::Succeeded,
+                fell: self.phase() == Phase::Failed,
+                asks: below.asks,
+            });
+        }
+        Ok(Sum {
+            nodes: small(self.count())?,
+            pods: small(self.count_pods())?,
+            locks: small(self.count_locks())?,
+            calls: 1,
+            finished: self.finished,
+            succeeded: self.phase() == Phase::Succeeded,
+            fell: self.phase() == Phase::Failed,
+            asks: self.asks(),
+        })
+    }
+
     /// The call of this position among the calls below the node.
     pub fn call_at(&self, position: usize) -> Option<&State>
         ensures { option_copied result ≡ call_at self.now.parts position }
@@ -347,7 +388,6 @@ fn first_of(wants: &Wants, kind: WantKind) -> Option<&Want>
 impl Kid {
     ghost use Rattle.meaning.specs.Lines.{Parts, lines_below, nothing};
     ghost use Rattle.tree_state.specs.Inside.Kids.{line_then, state_then, kid_parts, kid_before, replaced_by};
-    ghost use Rattle.tree_state.specs.Counting.{count_below};
 
     /// What a call made.
     pub(crate) fn of(state: State) -> Result<Kid, Memory>
@@ -368,72 +408,39 @@ impl Kid {
         }
     }
 
-    pub(crate) fn count(&self) -> usize
-        ensures { result ≡ count_below (kid_parts self.now) }
-    {
-        match &self.state {
-            None => 0,
-            Some(state) => state.count(),
-        }
-    }
-
-    // Which kinds of wants the kid's own line asks for.
-    fn own_asks(&self) -> Asks
-        ensures { result ≡ asks_in (lines_below (line_then self.now.line nothing)) }
+    // What is kept of the kid's own line.
+    fn own_sum(&self) -> Result<Sum, Memory>
+        ensures { IfOk result (λ sum. sum ≡ sum_of (line_then self.now.line nothing)) }
     {
         match &self.line {
-            None => Asks::nothing(),
-            Some(line) => line.asks(),
+            None => Ok(Sum::nothing()),
+            Some(line) => line.sum(),
         }
     }
 
-    // Which kinds of wants the kid's call asks for.
-    fn call_asks(&self) -> Asks
-        ensures { result ≡ asks_in (lines_below (state_then self.now.state nothing)) }
+    // What is kept of the kid's call.
+    fn call_sum(&self) -> Result<Sum, Memory>
+        ensures { IfOk result (λ sum. sum ≡ sum_of (state_then self.now.state nothing)) }
     {
         match &self.state {
-            None => Asks::nothing(),
-            Some(state) => state.asks(),
+            None => Ok(Sum::nothing()),
+            Some(state) => state.sum(),
         }
     }
 
-    pub(crate) fn asks(&self) -> Asks
-        ensures { result ≡ asks_in (lines_below (kid_parts self.now)) }
-    {
-        self.own_asks().and(self.call_asks())
-    }
-
-    // How many calls it has.
-    fn calls(&self) -> u32
-        ensures { result ≡ length (row_in (kid_parts self.now)) }
-    {
-        match &self.state {
-            None => 0,
-            Some(_) => 1,
-        }
-    }
-
-    fn is_finished(&self) -> bool
-        ensures { result ≡ lines.all_finished (row_in (kid_parts self.now)) }
-    {
-        match &self.state {
-            None => true,
-            Some(state) => state.finished,
-        }
-    }
-
-    /// What is kept of it.
+    /// What is kept of it. Most kids have no line of their own.
     pub(crate) fn sum(&self) -> Result<Sum, Memory>
         ensures { IfOk result (λ sum. sum ≡ sum_of (kid_parts self.now)) }
     {
-        Ok(Sum {
-            nodes: small(self.count())?,
-            pods: small(self.pods())?,
-            locks: small(self.locks())?,
-            calls: self.calls(),
-            finished: self.is_finished(),
-            asks: self.asks(),
-        })
+        match &self.line {
+            None => self.call_sum(),
+            Some(_) => {
+                let own = self.own_sum()?;
+                let call = self.call_sum()?;
+                let both = own.and(call)?;
+                Ok(both)
+            }
+        }
     }
 
     fn own_line(&self) -> Result<Option<Arc<Line>>, Memory>

@@ -7,15 +7,20 @@ ghost use Rattle.tree_state.specs.Inside.Sums.{sum_of, sum_with};
 use crate::kinds::Asks;
 use base_types::Memory;
 
-/// How many nodes and calls stand below a node, for how many pods and locks is asked there, whether all calls are finished, and which
-/// kinds of lines stand there.
+/// How many nodes and calls stand below a node, for how many pods and locks is asked there, how its calls ended, and which kinds of
+/// lines stand there.
 #[derive(Clone, Copy, Debug)]
 pub(crate) struct Sum {
     pub(crate) nodes: u32,
     pub(crate) pods: u32,
     pub(crate) locks: u32,
     pub(crate) calls: u32,
+    /// Whether all calls are finished.
     pub(crate) finished: bool,
+    /// Whether some call Succeeded.
+    pub(crate) succeeded: bool,
+    /// Whether all calls Failed.
+    pub(crate) fell: bool,
     pub(crate) asks: Asks,
 }
 
@@ -29,6 +34,8 @@ impl Sum {
             locks: 0,
             calls: 0,
             finished: true,
+            succeeded: false,
+            fell: true,
             asks: Asks::nothing(),
         }
     }
@@ -43,6 +50,8 @@ impl Sum {
             locks: together(self.locks, other.locks)?,
             calls: together(self.calls, other.calls)?,
             finished: self.finished && other.finished,
+            succeeded: self.succeeded || other.succeeded,
+            fell: self.fell && other.fell,
             asks: self.asks.and(other.asks),
         })
     }

@@ -6,7 +6,7 @@ ghost use Rattle.meaning.specs.Lines.{lines_in, lines_below, nothing};
 ghost use Rattle.meaning.specs.Trees.{wants_in};
 ghost use Rattle.tree_state.specs.Asking.{is_of};
 ghost use Rattle.tree_state.specs.Finding.{locks_in};
-ghost use Rattle.tree_state.specs.Inside.Kids.{own_line, line_then, state_then, kid_parts};
+ghost use Rattle.tree_state.specs.Inside.Kids.{own_line, line_then};
 
 use crate::state::{Kid, Line};
 use crate::{State, WantKind};
@@ -33,7 +33,7 @@ pub(crate) fn count_of(kind: WantKind, wants: &Wants) -> usize
 }
 
 impl Line {
-    fn count(&self, kind: WantKind) -> usize
+    pub(crate) fn count(&self, kind: WantKind) -> usize
         ensures all { result ≡ length (filter (is_of kind) (wants_in (lines_below (own_line self.now nothing)))) }
         ensures few { result ≤ 1 }
     {
@@ -55,23 +55,6 @@ impl Kid {
             Some(line) => line.count(kind),
         }
     }
-
-    pub(crate) fn locks(&self) -> usize
-        ensures { result ≡ length (locks_in (wants_in (lines_below (kid_parts self.now)))) }
-    {
-        self.own_count(WantKind::Lock) + self.call_locks()
-    }
-
-    // How many locks the kid's call asks for.
-    fn call_locks(&self) -> usize
-        ensures all { result ≡ length (locks_in (wants_in (lines_below (state_then self.now.state nothing)))) }
-        ensures few { result < 2 ^ 63 + 2 ^ 32 }
-    {
-        match &self.state {
-            None => 0,
-            Some(state) => state.count_locks(),
-        }
-    }
 }
 
 impl State {
@@ -83,7 +66,7 @@ impl State {
     }
 
     // The same, and that there are not too many for a further one to be counted.
-    fn count_locks(&self) -> usize
+    pub(crate) fn count_locks(&self) -> usize
         ensures all { result ≡ length (locks_in (wants_in (lines_in self.now))) }
         ensures few { result < 2 ^ 63 + 2 ^ 32 }
     {

@@ -17,7 +17,7 @@ use Rattle.tree_state.specs.Inside.LowerChunks.{chunks_are_lower, both_counted}
 use Rattle.tree_state.specs.Inside.Sizes.{chunk_size, below_size, made_size}
 use Rattle.tree_state.proofs.Kids.{made_of}
 use Rattle.tree_state.proofs.Chunks.{chunks_read, last_left}
-use Rattle.tree_state.proofs.Positions.{pods_among, pods_then, found_skips, has_left, rest_left, fits, node_has, node_fits, both_fit, node_rest, kid_has, kid_fits, kid_next}
+use Rattle.tree_state.proofs.Positions.{pods_among, pods_then, found_skips, has_left, rest_left, fits, node_has, node_fits, both_fit, node_rest, kid_has, kid_fits, kid_next, kid_passes}
 use Rattle.tree_state.proofs.+find_pod.Goals as goal
 
 pub filled::Filled::find_pod_at-returns-then-at-pods : goal.filled::Filled::find_pod_at-returns-then-at-pods
@@ -126,13 +126,19 @@ pub chunk::Chunk::find_pod_at-overflow_add-next : goal.chunk::Chunk::find_pod_at
 chunk::Chunk::find_pod_at-overflow_add-next g t c =
     let p = g.T.WantTest.accepts c.args.test.now in
     let all = pods_among (lines_below c.args.self.now) in
-    omega (arith, kid_fits c.args.from p (found_at c.args.from c.args.at p all) (c.args.at + length all) c.loop-kid.next c.deref-kid-items.result.now c.loop-kid.kid-index c.kid-item.result c.loop-kid-test.true c.kid-item.is c.loop-kid.invariant c.pods-next.result c.pods-next.ensures c.requires)
+    omega (arith, kid_fits c.args.from p (found_at c.args.from c.args.at p all) (c.args.at + length all) c.loop-kid.next c.deref-kid-items.result.now c.loop-kid.kid-index c.kid-item.result c.loop-kid-test.true c.kid-item.is c.loop-kid.invariant c.pods-pods.result c.pods-pods.ensures c.requires)
 
 pub chunk::Chunk::find_pod_at-loop-kid-preserved : goal.chunk::Chunk::find_pod_at-loop-kid-preserved
 chunk::Chunk::find_pod_at-loop-kid-preserved g t c =
     let p = g.T.WantTest.accepts c.args.test.now in
     let all = pods_among (lines_below c.args.self.now) in
-    kid_next c.args.from p (found_at c.args.from c.args.at p all) (c.args.at + length all) c.loop-kid.next c.deref-kid-items.result.now c.loop-kid.kid-index c.kid-item.result c.loop-kid-test.true c.kid-item.is c.loop-kid.invariant c.pods-next.result c.pods-next.ensures c.in_default.ensures
+    kid_next c.args.from p (found_at c.args.from c.args.at p all) (c.args.at + length all) c.loop-kid.next c.deref-kid-items.result.now c.loop-kid.kid-index c.kid-item.result c.loop-kid-test.true c.kid-item.is c.loop-kid.invariant c.pods-pods.result c.pods-pods.ensures c.in_default.ensures
+
+pub chunk::Chunk::find_pod_at-loop-kid-preserved-then-pods-eq0-2 : goal.chunk::Chunk::find_pod_at-loop-kid-preserved-then-pods-eq0-2
+chunk::Chunk::find_pod_at-loop-kid-preserved-then-pods-eq0-2 g t c =
+    let p = g.T.WantTest.accepts c.args.test.now in
+    let all = pods_among (lines_below c.args.self.now) in
+    kid_passes c.args.from p (found_at c.args.from c.args.at p all) (c.args.at + length all) c.loop-kid.next c.deref-kid-items.result.now c.loop-kid.kid-index c.kid-item.result c.loop-kid-test.true c.kid-item.is c.loop-kid.invariant c.pods-pods.result c.pods-pods.ensures (omega (arith, c.if-pods-eq0-2.true))
 
 pub state::State::find_pod_at-pod_in-requires : goal.state::State::find_pod_at-pod_in-requires
 state::State::find_pod_at-pod_in-requires g t c =

@@ -1,4 +1,4 @@
--- What is kept of the lines below a node: how many nodes, pods and locks stand there, and which kinds of lines.
+-- What is kept of the lines below a node: how many nodes, pods and locks stand there, how its calls ended, and which kinds of lines.
 use Rattle.std.specs.Prelude.{Bool, true, ◌&&◌, ◌||◌, ◌+◌, List, length}
 use Rattle.std.specs.List.{list_any}
 use Rattle.meaning.specs.declared.lines.Line.{Line}
@@ -11,6 +11,7 @@ use Rattle.tree_state.specs.declared.sum.Sum.{Sum}
 use Rattle.tree_state.specs.Asking.{ask_for}
 use Rattle.tree_state.specs.Counting.{count_below}
 use Rattle.tree_state.specs.Finding.{pods_in, locks_in}
+use Rattle.tree_state.specs.Replacing.{some_succeeded, all_fell}
 
 -- some line says that a task may begin
 abbrev pub let_begin : List Line → Bool
@@ -54,9 +55,20 @@ sum_of p = record {
   locks = length (locks_in (wants_in (lines_below p)));
   calls = length (row_in p);
   finished = all_finished (row_in p);
+  succeeded = some_succeeded (row_in p);
+  fell = all_fell (row_in p);
   asks = asks_in (lines_below p);
 }
 
 -- with so much more
 abbrev pub sum_with : Sum → Sum → Sum
-sum_with s t = record { nodes = s.nodes + t.nodes; pods = s.pods + t.pods; locks = s.locks + t.locks; calls = s.calls + t.calls; finished = s.finished && t.finished; asks = both_ask s.asks t.asks }
+sum_with s t = record {
+  nodes = s.nodes + t.nodes;
+  pods = s.pods + t.pods;
+  locks = s.locks + t.locks;
+  calls = s.calls + t.calls;
+  finished = s.finished && t.finished;
+  succeeded = s.succeeded || t.succeeded;
+  fell = s.fell && t.fell;
+  asks = both_ask s.asks t.asks;
+}

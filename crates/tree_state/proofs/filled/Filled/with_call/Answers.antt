@@ -35,6 +35,6 @@ pub returns : goal.returns
 returns c =
     let end : length c.deref-chunk-items.result.now ≤ c.loop-chunk.chunk-index = omega (arith, c.loop-chunk-test.false) in
     let full = all_of c.loop-chunk.full.items in
-    ap (λ (p : Parts). then_parts full p) (replaced_whole c.in_ok-last.last c.self.inside.last c.loop-chunk.left c.or_replaced.new.left c.loop-chunk.call c.or_replaced.new.call (c.in_ok-last.ensures nothing))
+    ap (λ (p : Parts). then_parts full p) (replaced_whole c.in_ok-last.last c.self.inside.last c.loop-chunk.left c.copied_or_replaced.new.left c.loop-chunk.call c.copied_or_replaced.new.call (c.in_ok-last.ensures nothing))
     ∙ ap (λ (p : Parts). then_parts full (replaced_by p c.loop-chunk.left c.loop-chunk.call)) (sym (last_left c.deref-chunk-items.result.now c.self.inside.last c.loop-chunk.chunk-index end))
     ∙ c.loop-chunk.invariant.0
