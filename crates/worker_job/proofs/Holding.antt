@@ -1,4 +1,5 @@
--- Where no path that holds a lock waits, none is granted, and where one alone does, it is; likewise of those that are over and releases.
+-- Where no path that holds a lock waits, none is granted, and where one alone does, it is; where none is over, none is released, and the
+-- first that is over is.
 use Rattle.std.proofs.Common.{◌≡◌, ◌⊎◌, ◌<◌, inl, inr, Bool, true, false, not, ◌&&◌, cond, List, [], ◌∷◌, length, filter_map, true≢false, refl, sym, ◌∙◌, ap, subst, arith}
 use Rattle.std.specs.Prelude.{Option, Some, None, option_map}
 use Rattle.std.specs.List.{find, cons_option}
@@ -19,6 +20,7 @@ use Rattle.tree_types.specs.Phases.{fulfilled}
 use Rattle.tree_types.proofs.Sels.{sels_same, sels_are}
 use Rattle.meaning.specs.Answers.{Sels, path, answers}
 use Rattle.growth.specs.Growth.{Among}
+use Rattle.growth.proofs.Numbered.{both_true}
 use Rattle.growth.proofs.OnePath.{one_path}
 use Rattle.askings.specs.Owners.{waiting_at}
 use Rattle.askings.proofs.HasNode.{has_node}
@@ -28,6 +30,8 @@ use Rattle.books.specs.declared.Request.{Request}
 use Rattle.books.specs.Books.{request_of}
 use Rattle.wf_object.specs.Kept.{law_book}
 use Rattle.sync_locks.specs.Book as locks
+use Rattle.tree_order.specs.Order.{path_before, InOrder, paths_of}
+use Rattle.tree_order.proofs.Nodes.{nodes_in_order}
 use Rattle.law.specs.Contents.{Flow, Book}
 use Rattle.law.specs.Justified.{tree_of, wants_of, key}
 use Rattle.law.specs.Due.{Matter, record_fact, release, is_at}
@@ -37,7 +41,7 @@ use Rattle.worker_job.specs.declared.reading.Reading.{Reading}
 use Rattle.worker_job.specs.Readings as reads
 use Rattle.worker_job.specs.declared.held.Held.{Held}
 use Rattle.worker_job.specs.declared.held.Held.TheVariants as held
-use Rattle.worker_job.specs.Inside.Held.{waits_by, waits, is_over, stands, stands_at, may_wait, Tells}
+use Rattle.worker_job.specs.Inside.Held.{waits_by, waits, is_over, stands, stands_at, may_wait, IsOne, TellsAlone, TellsFirst}
 use Rattle.worker_job.proofs.Asked.{none_by}
 use Rattle.worker_job.proofs.Passing.{finds, found_in}
 
@@ -61,6 +65,21 @@ module _ {A B : Type 0} (give : A → Option B) where
     one_among (z ∷ xs) x (inl here) is each = one_by xs (give z) (each z (inl refl)) (inl (ap give here ∙ is))
     one_among (z ∷ xs) x (inr there) is each =
         one_by xs (give z) (each z (inl refl)) (inr (one_among xs x there is (λ w later. each w (inr later))))
+
+among_paths : (n : Node) (ns : List Node) → Among n ns → Among n.path.sels (paths_of ns)
+among_paths n [] there = absurd there
+among_paths n (z ∷ ns) (inl here) = inl (ap (λ (x : Node). x.path.sels) here)
+among_paths n (z ∷ ns) (inr there) = inr (among_paths n ns there)
+
+-- where one node gives this, and none that stands before it gives anything
+module _ {B : Type 0} (give : Node → Option B) (y : B) where
+  pub first_among : (ns : List Node) → InOrder (paths_of ns) → (n : Node) → Among n ns → give n ≡ Some y → ((z : Node) → Among z ns → path_before z.path.sels n.path.sels ≡ true → give z ≡ None) → first_given give ns ≡ Some y
+  first_among [] order n there is before = absurd there
+  first_among (z ∷ ns) order n (inl here) is before =
+      ap (λ (o : Option B). head (cons_option o (filter_map give ns))) (ap give here ∙ is)
+  first_among (z ∷ ns) order n (inr there) is before =
+      ap (λ (o : Option B). head (cons_option o (filter_map give ns))) (before z (inl refl) (order.0 n.path.sels (among_paths n ns there)))
+      ∙ first_among ns order.1 n there is (λ w later. before w (inr later))
 
 -- ---- the node of a path is the one that is found there
 
@@ -107,7 +126,8 @@ module _ (f : Flow) where
   awaited [] l asked = refl
   awaited (s ∷ p) l asked =
       let owner = has_node f.manifest (answers f.journal) (want.Lock (path (s ∷ p)) l) asked in
-      stands_there owner.0 owner.1 waits (s ∷ p) owner.2.0 (waits_for l owner.0 owner.2.1 owner.2.2)
+      let waiting = stands_there owner.0 owner.1 waits (s ∷ p) owner.2.0 (waits_for l owner.0 owner.2.1 owner.2.2) in
+      ap (λ (b : Bool). not b && stands_at waits f (s ∷ p)) owner.2.4 ∙ waiting
 
   own_path : (q : Sels) (s t : Sel) (p : Sels) → s ∷ t ∷ p ≡ waiting_at q → q ≡ s ∷ t ∷ p
   own_path [] s t p e = absurd (let z : s ∷ t ∷ p ≡ Main ∷ [] = e in cc)
@@ -118,7 +138,7 @@ module _ (f : Flow) where
   asked_there [] long is = absurd (omega (arith, long))
   asked_there (s ∷ []) long is = absurd (omega (arith, long))
   asked_there (s ∷ t ∷ p) long is =
-      let n = node_at waits (s ∷ t ∷ p) is in
+      let n = node_at waits (s ∷ t ∷ p) (both_true (not ((answers f.journal).granted (s ∷ t ∷ p))) (stands_at waits f (s ∷ t ∷ p)) is).1 in
       let w = waited n.node.phase n.node.note n.is in
       let asks = (waits_ask f.manifest (answers f.journal) n.node n.there).lock w.1 w.0 w.2 in
       let own : asks.0.sels ≡ s ∷ t ∷ p = own_path asks.0.sels s t p (sym n.at ∙ asks.1) in
@@ -126,11 +146,19 @@ module _ (f : Flow) where
 
 -- ---- what is told
 
-pub tells_same : (holds by : Path → Bool) (passes : Path → Bool) (h : Held) → ((p : Path) → by p ≡ holds p) → Tells holds passes h → Tells by passes h
-tells_same holds by passes held.Nothing same tells = λ p is. tells p (sym (same p) ∙ is)
-tells_same holds by passes (held.Alone p) same tells =
-    (same p.now ∙ tells.0, tells.1, λ q is such. tells.2 q (sym (same q) ∙ is) such)
-tells_same holds by passes held.Unknown same tells = tells
+module _ (holds by passes : Path → Bool) (same : (p : Path) → by p ≡ holds p) where
+  one_same : (p : Path) (Other : Path → Type 0) → IsOne holds passes p Other → IsOne by passes p Other
+  one_same p Other tells = (same p ∙ tells.0, tells.1, λ q is such. tells.2 q (sym (same q) ∙ is) such)
+
+  pub alone_same : (h : Held) → TellsAlone holds passes h → TellsAlone by passes h
+  alone_same held.Nothing tells = λ p is. tells p (sym (same p) ∙ is)
+  alone_same (held.One p) tells = one_same p.now (λ q. q ≡ p.now) tells
+  alone_same held.Unknown tells = tells
+
+  pub first_same : (h : Held) → TellsFirst holds passes h → TellsFirst by passes h
+  first_same held.Nothing tells = λ p is. tells p (sym (same p) ∙ is)
+  first_same (held.One p) tells = one_same p.now (λ q. path_before q.sels p.now.sels ≡ false) tells
+  first_same held.Unknown tells = tells
 
 -- the one path that is not another than this
 pub only_path : (q p : Path) (such : Bool) → (not (sels_eq q.sels p.sels) && such) ≡ false → such ≡ true → q ≡ p
@@ -149,6 +177,9 @@ module _ (r : Reading) where
 
   abbrev OnlySuch : (Path → Bool) → Path → Type 0
   OnlySuch passes p = (q : Path) → reads.is_held r q ≡ true → passes q ≡ true → q ≡ p
+
+  abbrev FirstSuch : (Path → Bool) → Path → Type 0
+  FirstSuch passes p = (q : Path) → reads.is_held r q ≡ true → passes q ≡ true → path_before q.sels p.sels ≡ false
 
   -- ---- grants
 
@@ -217,36 +248,29 @@ module _ (r : Reading) where
   at_path : (p : Path) (s : Sel) (q : Sels) → p.sels ≡ s ∷ q → next.release_node (reads.law r) (reads.workflow r) (reads.views r) (reads.flow r) p.sels p ≡ reads.release_held r p
   at_path p s q e = ap (λ (x : Sels). next.release_node (reads.law r) (reads.workflow r) (reads.views r) (reads.flow r) x p) e
 
-  releasing_one : (p : Path) (s : Sel) (q : Sels) (m : Matter) → p.sels ≡ s ∷ q → reads.release_held r p ≡ Some m → OnlySuch (λ x. stands_at is_over f x.sels) p → (n : Node) → Among n (tree_of f) → (reads.releasing r n ≡ None) ⊎ (reads.releasing r n ≡ Some m)
-  releasing_one p s q m long gives only n there = by (fulfilled n.phase) (reads.is_held r n.path) refl refl
-    where
-      by : (a b : Bool) → fulfilled n.phase ≡ a → reads.is_held r n.path ≡ b → (cond a (next.release_node (reads.law r) (reads.workflow r) (reads.views r) (reads.flow r) n.path.sels n.path) None ≡ None) ⊎ (cond a (next.release_node (reads.law r) (reads.workflow r) (reads.views r) (reads.flow r) n.path.sels n.path) None ≡ Some m)
-      by true true over held =
-          let same : n.path ≡ p = only n.path held (stands_there f n there is_over n.path.sels refl over) in
-          inr
-          (ap (λ (x : Path). next.release_node (reads.law r) (reads.workflow r) (reads.views r) (reads.flow r) x.sels x) same
-          ∙ at_path p s q long
-          ∙ gives)
-      by true false over held = inl (of_node n.path.sels n.path (released_by n.path (reads.request r n.path) held))
-      by false b over held = inl refl
+  releasing_before : (p : Path) → FirstSuch (λ q. stands_at is_over f q.sels) p → (n : Node) → Among n (tree_of f) → path_before n.path.sels p.sels ≡ true → reads.releasing r n ≡ None
+  releasing_before p first n there before =
+      releasing_by n (fulfilled n.phase) refl
+      (λ over. not_held n.path (path_before n.path.sels p.sels) (reads.is_held r n.path) before
+      (λ held. first n.path held (stands_there f n there is_over n.path.sels refl over)))
 
-  released_of : (p : Path) (x : Sels) → p.sels ≡ x → reads.is_held r p ≡ true → stands_at is_over f p.sels ≡ true → OnlySuch (λ q. stands_at is_over f q.sels) p → (x ≡ [] → ⊥) → reads.release_held r p ≡ reads.first_node r (reads.releasing r)
-  released_of p [] at held is only long = absurd (long refl)
-  released_of p (s ∷ q) at held is only long =
+  released_of : (p : Path) (x : Sels) → p.sels ≡ x → reads.is_held r p ≡ true → stands_at is_over f p.sels ≡ true → FirstSuch (λ q. stands_at is_over f q.sels) p → (x ≡ [] → ⊥) → reads.release_held r p ≡ reads.first_node r (reads.releasing r)
+  released_of p [] at held is first long = absurd (long refl)
+  released_of p (s ∷ q) at held is first long =
       let n = node_at f is_over p.sels is in
       let gives = gives_release p (reads.request r p) held in
       let same : n.node.path ≡ p = ap path n.at in
       gives.1
       ∙ sym
-      (one_among (reads.releasing r) gives.0 (tree_of f) n.node n.there
+      (first_among (reads.releasing r) gives.0 (tree_of f) (nodes_in_order f.manifest (answers f.journal)) n.node n.there
       (ap (λ (b : Bool). cond b (next.release_node (reads.law r) (reads.workflow r) (reads.views r) (reads.flow r) n.node.path.sels n.node.path) None) n.is
       ∙ ap (λ (x : Path). next.release_node (reads.law r) (reads.workflow r) (reads.views r) (reads.flow r) x.sels x) same
       ∙ at_path p s q at
       ∙ gives.1)
-      (releasing_one p s q gives.0 at gives.1 only))
+      (λ z among before. releasing_before p first z among (ap (path_before z.path.sels) (sym n.at) ∙ before)))
 
-  pub one_released : (p : Path) → reads.is_held r p ≡ true → stands_at is_over f p.sels ≡ true → OnlySuch (λ q. stands_at is_over f q.sels) p → (p.sels ≡ [] → ⊥) → reads.release_held r p ≡ reads.first_node r (reads.releasing r)
-  one_released p held is only long = released_of p p.sels refl held is only long
+  pub first_released : (p : Path) → reads.is_held r p ≡ true → stands_at is_over f p.sels ≡ true → FirstSuch (λ q. stands_at is_over f q.sels) p → (p.sels ≡ [] → ⊥) → reads.release_held r p ≡ reads.first_node r (reads.releasing r)
+  first_released p held is first long = released_of p p.sels refl held is first long
 
   -- ---- the view of the book
 

@@ -2,13 +2,17 @@
 
 ghost use Rattle.std.specs.Prelude.{◌≡◌, ◌&&◌, not, true};
 ghost use Rattle.tree_types.specs.Places.{sels_eq};
+ghost use Rattle.tree_order.specs.Order.{path_before};
 ghost use Rattle.sync_locks.specs.Book as locks;
+ghost use Rattle.worker_job.specs.declared.held.Standing.TheVariants as standing;
 ghost use Rattle.worker_job.specs.Inside.Held as held;
 ghost use Rattle.worker_job.specs.Readings as reads;
 
 use crate::reading::Reading;
 use base_types::Text;
+use recorded::Recorded;
 use sync_locks::{LockBook, PathTest};
+use tree_order::is_before;
 use tree_types::{Node, Note, Path, Phase, Sel, fulfilled};
 use wf_object::WfObject;
 
@@ -23,7 +27,7 @@ pub(crate) enum Standing {
 #[derive(Clone, Copy)]
 pub(crate) enum Held<'a> {
     Nothing,
-    Alone(&'a Path),
+    One(&'a Path),
     Unknown,
 }
 
@@ -45,7 +49,14 @@ struct Stands<'a> {
 }
 
 impl Stands<'_> {
-    fn is_waiting(&self, path: &[Sel]) -> bool
+    // Most that hold were granted, which is told without the node.
+    fn is_waiting(&self, path: &Path) -> bool
+        ensures { result ≡ held.is_waiting self.now.object.now path.now.sels }
+    {
+        !self.object.journal().granted(&path.sels) && self.waits(path.sels.as_slice())
+    }
+
+    fn waits(&self, path: &[Sel]) -> bool
         ensures { result ≡ held.stands_at held.waits self.now.object.now path.now }
     {
         match self.object.state().node(path) {
@@ -67,7 +78,7 @@ impl Stands<'_> {
         ensures { result ≡ held.such self.now.standing self.now.object.now path.now }
     {
         match self.standing {
-            Standing::Waiting => path.sels.is_empty() || self.is_waiting(path.sels.as_slice()),
+            Standing::Waiting => path.sels.is_empty() || self.is_waiting(path),
             Standing::Over => self.is_over(path.sels.as_slice()),
         }
     }
@@ -97,10 +108,29 @@ impl PathTest for Others<'_> {
     }
 }
 
+// The same of a path that stands before this one.
+#[derive(Clone, Copy)]
+struct Before<'a> {
+    stands: Stands<'a>,
+    path: &'a Path,
+}
+
+impl PathTest for Before<'_> {
+    ghost accepts = { λ test path. path_before path.sels test.path.now.sels
+        && held.such test.stands.standing test.stands.object.now path };
+
+    fn accepts(&self, path: &Path) -> bool {
+        is_before(path.sels.as_slice(), self.path.sels.as_slice()) && self.stands.is_such(path)
+    }
+}
+
+// How many times one that stands before those found is looked for: as many as are looked at one by one.
+const LOOKS: u32 = 32;
+
 impl<'a> Stands<'a> {
-    // What the holders of a book tell of the paths of a workflow that hold and stand so, if they are few.
-    fn told_by(&self, book: &'a LockBook, workflow: &Text) -> Held<'a>
-        ensures { held.Tells (λ p. locks.is_held (locks.key_by workflow.now p) book.now.requests)
+    // The path of a workflow that alone holds and stands so, by the holders of a book, if they are few.
+    fn alone_by(&self, book: &'a LockBook, workflow: &Text) -> Held<'a>
+        ensures { held.TellsAlone (λ p. locks.is_held (locks.key_by workflow.now p) book.now.requests)
             (held.such self.now.standing self.now.object.now) result }
     {
         if book.has_many_holders() {
@@ -108,15 +138,15 @@ impl<'a> Stands<'a> {
         }
         match book.find_held(workflow, self) {
             None => Held::Nothing,
-            Some(path) => self.told_beside(book, workflow, path),
+            Some(path) => self.alone_beside(book, workflow, path),
         }
     }
 
     // The same, where a path holds and stands so.
-    fn told_beside(&self, book: &'a LockBook, workflow: &Text, path: &'a Path) -> Held<'a>
+    fn alone_beside(&self, book: &'a LockBook, workflow: &Text, path: &'a Path) -> Held<'a>
         requires holds { locks.is_held (locks.key_by workflow.now path.now) book.now.requests ≡ true }
         requires such { held.such self.now.standing self.now.object.now path.now ≡ true }
-        ensures { held.Tells (λ p. locks.is_held (locks.key_by workflow.now p) book.now.requests)
+        ensures { held.TellsAlone (λ p. locks.is_held (locks.key_by workflow.now p) book.now.requests)
             (held.such self.now.standing self.now.object.now) result }
     {
         let others = Others {
@@ -124,26 +154,78 @@ impl<'a> Stands<'a> {
             path,
         };
         match book.find_held(workflow, &others) {
-            None => Held::Alone(path),
+            None => Held::One(path),
             Some(_) => Held::Unknown,
         }
+    }
+
+    // The first of the paths of a workflow that hold and stand so, by the holders of a book, if they are few.
+    fn first_by(&self, book: &'a LockBook, workflow: &Text) -> Held<'a>
+        ensures { held.TellsFirst (λ p. locks.is_held (locks.key_by workflow.now p) book.now.requests)
+            (held.such self.now.standing self.now.object.now) result }
+    {
+        if book.has_many_holders() {
+            return Held::Unknown;
+        }
+        match book.find_held(workflow, self) {
+            None => Held::Nothing,
+            Some(path) => self.first_from(book, workflow, path),
+        }
+    }
+
+    // The same, where a path holds and stands so: one that stands before it is looked for, and so on.
+    fn first_from(&self, book: &'a LockBook, workflow: &Text, path: &'a Path) -> Held<'a>
+        requires holds { locks.is_held (locks.key_by workflow.now path.now) book.now.requests ≡ true }
+        requires such { held.such self.now.standing self.now.object.now path.now ≡ true }
+        ensures { held.TellsFirst (λ p. locks.is_held (locks.key_by workflow.now p) book.now.requests)
+            (held.such self.now.standing self.now.object.now) result }
+    {
+        let mut first = path;
+        for _ in 0..LOOKS {
+            let before = Before {
+                stands: *self,
+                path: first,
+            };
+            match book.find_held(workflow, &before) {
+                None => return Held::One(first),
+                Some(path) => first = path,
+            }
+        }
+        Held::Unknown
     }
 }
 
 impl<'a> Reading<'a> {
-    // Which paths of this workflow hold a lock, by the view of the book, and have nodes that stand so. This is told where no more
-    // requests hold than are looked at one by one.
-    pub(crate) fn held_paths(&self, standing: Standing) -> Held<'a>
-        ensures { held.Tells (reads.is_held self.now) (held.such standing self.now.object.now) result }
+    // The path of this workflow that alone holds a lock, by the view of the book, and has a node that waits. This is told where no
+    // more requests hold than are looked at one by one.
+    pub(crate) fn held_waiting(&self) -> Held<'a>
+        ensures { held.TellsAlone (reads.is_held self.now) (held.such standing.Waiting self.now.object.now) result }
     {
         match self.job.locks() {
             None => Held::Nothing,
             Some(book) => {
                 let stands = Stands {
                     object: self.object,
-                    standing,
+                    standing: Standing::Waiting,
                 };
-                stands.told_by(book, self.job.workflow())
+                stands.alone_by(book, self.job.workflow())
+            }
+        }
+    }
+
+    // The first of its paths that hold a lock and have a node that is over. This is told where no more requests hold than are
+    // looked at one by one.
+    pub(crate) fn held_over(&self) -> Held<'a>
+        ensures { held.TellsFirst (reads.is_held self.now) (held.such standing.Over self.now.object.now) result }
+    {
+        match self.job.locks() {
+            None => Held::Nothing,
+            Some(book) => {
+                let stands = Stands {
+                    object: self.object,
+                    standing: Standing::Over,
+                };
+                stands.first_by(book, self.job.workflow())
             }
         }
     }

@@ -17,7 +17,7 @@ ghost use Rattle.worker_job.specs.Inside.Marks.{FoundIs, such};
 ghost use Rattle.worker_job.specs.Inside.Saving.{is_left};
 ghost use Rattle.worker_job.specs.Readings as reads;
 
-use crate::held::{Held, Standing};
+use crate::held::Held;
 use crate::marks::{Read, Sought};
 use crate::reading::Reading;
 use base_types::{Shared, Text};
@@ -162,9 +162,9 @@ impl<'a> Reading<'a> {
         ensures { option_map (λ p. record_fact (fact.Granted p.now)) result
             ≡ reads.asked self.now (reads.granting self.now) }
     {
-        match self.held_paths(Standing::Waiting) {
+        match self.held_waiting() {
             Held::Nothing => return None,
-            Held::Alone(path) => {
+            Held::One(path) => {
                 if path.sels.len() > 1 {
                     return Some(path);
                 }
@@ -263,9 +263,9 @@ impl<'a> Reading<'a> {
         ensures { option_map (λ k. release k.0.now (justified.key (reads.workflow self.now) k.1.now)) result
             ≡ reads.first_node self.now (reads.releasing self.now) }
     {
-        match self.held_paths(Standing::Over) {
+        match self.held_over() {
             Held::Nothing => return None,
-            Held::Alone(path) => {
+            Held::One(path) => {
                 if !path.sels.is_empty() {
                     return match self.held(path) {
                         None => None,

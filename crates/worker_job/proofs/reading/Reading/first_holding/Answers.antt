@@ -22,5 +22,5 @@ returns-in-Nothing c = none_granted c.args.self.now c.in-Nothing.ensures
 
 pub returns-then-len-gt1 : goal.returns-then-len-gt1
 returns-then-len-gt1 c =
-    one_granted c.args.self.now c.in-Alone.path.now c.in-Alone.ensures.0 c.in-Alone.ensures.1 c.in-Alone.ensures.2
+    one_granted c.args.self.now c.in-One.path.now c.in-One.ensures.0 c.in-One.ensures.1 c.in-One.ensures.2
     (omega (arith, c.if-len-gt1.true, c.len.ensures))

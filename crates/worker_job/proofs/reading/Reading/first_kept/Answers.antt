@@ -2,7 +2,7 @@ use Rattle.std.proofs.Common.{true≢false, sym, ◌∙◌}
 use Rattle.std.specs.Prelude.{Some, None}
 use Rattle.worker_job.specs.Readings as reads
 use Rattle.worker_job.proofs.Wanted.{noded}
-use Rattle.worker_job.proofs.Holding.{none_released, one_released}
+use Rattle.worker_job.proofs.Holding.{none_released, first_released}
 use Rattle.worker_job.proofs.reading.Reading.first_kept.Goals as goal
 
 pub returns-in-None-find_node : goal.returns-in-None-find_node
@@ -22,11 +22,11 @@ returns-in-Nothing c = none_released c.args.self.now c.in-Nothing.ensures
 pub returns-in-None : goal.returns-in-None
 returns-in-None c =
     c.in-None.ensures
-    ∙ one_released c.args.self.now c.in-Alone.path.now c.in-Alone.ensures.0 c.in-Alone.ensures.1 c.in-Alone.ensures.2
+    ∙ first_released c.args.self.now c.in-One.path.now c.in-One.ensures.0 c.in-One.ensures.1 c.in-One.ensures.2
     (λ e. true≢false (sym (c.is_empty.ensures.1 e) ∙ c.if-not-is_empty.true))
 
 pub returns-in-Some : goal.returns-in-Some
 returns-in-Some c =
     c.in-Some.ensures
-    ∙ one_released c.args.self.now c.in-Alone.path.now c.in-Alone.ensures.0 c.in-Alone.ensures.1 c.in-Alone.ensures.2
+    ∙ first_released c.args.self.now c.in-One.path.now c.in-One.ensures.0 c.in-One.ensures.1 c.in-One.ensures.2
     (λ e. true≢false (sym (c.is_empty.ensures.1 e) ∙ c.if-not-is_empty.true))

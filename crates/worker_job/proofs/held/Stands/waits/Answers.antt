@@ -3,7 +3,7 @@ use Rattle.std.proofs.Common.{refl, ◌∙◌, ap}
 use Rattle.std.specs.Prelude.{Some, None}
 use Rattle.worker_job.specs.Inside.Held.{waits, stands}
 use Rattle.worker_job.proofs.Wanted.{node_found}
-use Rattle.worker_job.proofs.held.Stands.is_waiting.Goals as goal
+use Rattle.worker_job.proofs.held.Stands.waits.Goals as goal
 
 pub returns-in-None : goal.returns-in-None
 returns-in-None c =

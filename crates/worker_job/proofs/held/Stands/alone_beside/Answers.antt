@@ -1,7 +1,7 @@
 -- Where no other path is such, the one that is such is the only one.
 use Rattle.worker_job.specs.Inside.Held.{such}
 use Rattle.worker_job.proofs.Holding.{only_path}
-use Rattle.worker_job.proofs.held.Stands.told_beside.Goals as goal
+use Rattle.worker_job.proofs.held.Stands.alone_beside.Goals as goal
 
 pub returns-in-None : goal.returns-in-None
 returns-in-None c = (
