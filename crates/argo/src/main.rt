@@ -5,6 +5,7 @@ use base_types::{Memory, Names, Text};
 use io_edge::{NoOutage, StdSink, StdSource};
 use std::env;
 use std::io::ErrorKind;
+use std::mem::forget;
 use std::process::ExitCode;
 use wf_program::{Ended, Status, argo};
 
@@ -29,14 +30,17 @@ fn main(rt: HostRuntime) -> ExitCode {
             let mut source = StdSource::new(rt.stdin());
             let mut sink = StdSink::new(rt.stdout());
             let mut ended = Ended::new();
-            argo(
+            let status = argo(
                 rt.alloc(),
                 words.as_slice(),
                 &mut source,
                 &mut sink,
                 NoOutage,
                 &mut ended,
-            )
+            );
+            // The process ends, and its memory with it: the store is not taken apart first.
+            forget(ended);
+            status
         }
         Err(Memory) => Status::Memory,
     };
