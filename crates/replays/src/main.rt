@@ -12,7 +12,6 @@ mod refused;
 mod replay;
 mod time;
 
-use base_types::limits::LONGEST_INPUT;
 use case::{Case, document_of};
 use io_edge::{StdSource, read_all};
 use refused::ReplaysRefused;
@@ -21,11 +20,14 @@ use std::env;
 use std::process::ExitCode;
 use wf_bundle::Document;
 
+// How many bytes of cases are read: as many as there are, since a history is far longer than the document that it comes of.
+const ALL: usize = usize::MAX - 1;
+
 // The cases, as the input says them.
 fn read_cases(rt: &HostRuntime) -> Result<Vec<Value>, ReplaysRefused> {
     let alloc = rt.alloc();
     let mut source = StdSource::new(rt.stdin());
-    let bytes = read_all(alloc, &mut source, LONGEST_INPUT)?;
+    let bytes = read_all(alloc, &mut source, ALL)?;
     match Value::from_slice(alloc, bytes.as_slice())? {
         Value::Array(cases) => Ok(cases),
         _ => Err(ReplaysRefused::NoList),
