@@ -5,4 +5,5 @@ pub mod Kids
 pub mod Lower
 pub mod LowerChunks
 pub mod Sizes
+pub mod Stocks
 pub mod Sums

@@ -7,6 +7,7 @@ ghost use Rattle.tree_state.specs.Beginning.{begun};
 ghost use Rattle.tree_state.specs.Inside.Begun.{lets_begin, own_lets, begins_in, begun_by};
 ghost use Rattle.tree_state.specs.Inside.Kids.{state_then, kid_before};
 
+use crate::below::Stock;
 use crate::chunk::Chunk;
 use crate::clue::same_sels;
 use crate::filled::Filled;
@@ -78,11 +79,23 @@ impl Chunk {
             option_map (then_parts chunk) (begun_by rest path.now call.new)
             ≡ begun_by (then_parts self.now rest) path.now call.old) }
     {
-        let mut chunk = Chunk::new(self.allocator());
+        let mut chunk = Chunk::with_room(self.allocator(), self.kids.len())?;
         for kid in &self.kids {
             chunk.add_or_begin(kid, path, call)?;
         }
         Ok(chunk)
+    }
+
+    // The same, where the call may have its place already.
+    fn copied_or_begun(&self, path: &Path, call: &mut Option<State>) -> Result<Chunk, Memory>
+        ensures { IfOk result (λ chunk. (rest : Parts) →
+            option_map (then_parts chunk) (begun_by rest path.now call.new)
+            ≡ begun_by (then_parts self.now rest) path.now call.old) }
+    {
+        if call.is_none() {
+            return self.copy();
+        }
+        self.or_begun(path, call)
     }
 
     // Adds a kid, or the call in the place of its line where that lets the task begin.
@@ -155,7 +168,7 @@ impl Filled {
             sum = sum.and(chunk.sum())?;
             full.push(chunk)?;
         }
-        let last = self.last.or_begun(path, &mut call)?;
+        let last = self.last.copied_or_begun(path, &mut call)?;
         // A call without a place: no such task may begin.
         if call.is_some() {
             return Ok(None);
@@ -170,9 +183,9 @@ impl Below {
     fn with_begun(&self, path: &Path, call: State) -> Result<Option<Below>, Memory>
         ensures { IfOk result (λ found. found ≡ begun self.now path.now call) }
     {
-        match &self.filled {
-            None => Ok(None),
-            Some(filled) => self.or_none(filled.with_begun(path, call)?),
+        match &self.stock {
+            Stock::Nothing | Stock::One(_) => Ok(None),
+            Stock::Many(filled) => self.or_none(filled.with_begun(path, call)?),
         }
     }
 

@@ -14,7 +14,7 @@ ghost use Rattle.tree_state.specs.Inside.Kids.{own_line, kid_parts};
 ghost use Rattle.tree_state.specs.Inside.Sums.{sum_of};
 
 use crate::filled::Filled;
-use crate::state::{Kid, Line};
+use crate::state::{Kid, Line, Summed};
 use crate::sum::Sum;
 use crate::{NodeTest, Shared, State, Told, WantKind, WantTest};
 use base_types::{List, Memory};
@@ -23,12 +23,21 @@ use std::marker::Model;
 use std::sync::Arc;
 use tree_types::{Node, Path, Want};
 
-/// What stands below a node, in tree order. It is behind a box, and where nothing stands there is no box: most nodes are pods, with
-/// nothing below, and each move of a state would copy the room of what they lack.
+/// What there is of it. A call alone needs neither a box nor a chunk.
+#[cycle(state)]
+#[derive(Debug, Drop)]
+pub(crate) enum Stock {
+    Nothing,
+    One(Arc<Summed>),
+    Many(Box<Filled>),
+}
+
+/// What stands below a node, in tree order. It takes little room of its own: most nodes are pods, with nothing below, and each move
+/// of a state would copy the room of what they lack.
 #[cycle(state)]
 #[derive(Debug)]
 pub struct Below {
-    pub(crate) filled: Option<Box<Filled>>,
+    pub(crate) stock: Stock,
     pub(crate) alloc: Global,
 }
 
@@ -36,10 +45,7 @@ pub struct Below {
 impl Drop for Below {
     #[cycle(state)]
     fn drop(self) {
-        let Below {
-            filled: _,
-            alloc: _,
-        } = self;
+        let Below { stock: _, alloc: _ } = self;
     }
 }
 
@@ -52,9 +58,9 @@ impl Model for Below {
 
     ghost coded = { parts_code };
 
-    ghost use Rattle.tree_state.specs.Inside.Chunks.{in_box};
+    ghost use Rattle.tree_state.specs.Inside.Stocks.{in_stock};
 
-    ghost view = { λ a. in_box a.filled };
+    ghost view = { λ a. in_stock a.stock };
 
     ghost use Rattle.tree_state.specs.Inside.Sizes.{below_size};
 
@@ -71,7 +77,7 @@ impl Below {
         ensures { result ≡ nothing }
     {
         Below {
-            filled: None,
+            stock: Stock::Nothing,
             alloc,
         }
     }
@@ -80,22 +86,28 @@ impl Below {
     pub(crate) fn of(alloc: Global, filled: Filled) -> Result<Below, Memory>
         ensures { IfOk result (λ below. below ≡ filled) }
     {
-        let filled = Some(Box::new(alloc, filled)?);
-        Ok(Below { filled, alloc })
+        let stock = Stock::Many(Box::new(alloc, filled)?);
+        Ok(Below { stock, alloc })
     }
 
     /// Adds what a call made.
     pub fn push(&mut self, state: State) -> Result<(), Memory>
         ensures { OnOk result (self.new ≡ then_parts self.old (row_of (state ∷ []))) }
     {
-        self.add(Kid::of(state)?)
+        self.push_shared(Shared::new(state)?)
     }
 
     /// Adds what a call made, which is shared.
     pub fn push_shared(&mut self, state: Shared) -> Result<(), Memory>
         ensures { OnOk result (self.new ≡ then_parts self.old (row_of (state ∷ []))) }
     {
-        self.add(Kid::of_shared(state))
+        match &self.stock {
+            Stock::Nothing => {
+                self.stock = Stock::One(state.into_arc());
+                Ok(())
+            }
+            Stock::One(_) | Stock::Many(_) => self.add(Kid::of_shared(state)),
+        }
     }
 
     /// Adds a task that is ready, and whose beginning may be recorded.
@@ -122,19 +134,27 @@ impl Below {
     pub(crate) fn add(&mut self, kid: Kid) -> Result<(), Memory>
         ensures { OnOk result (self.new ≡ then_parts self.old (kid_parts kid)) }
     {
-        match &mut self.filled {
-            None => self.add_first(kid),
-            Some(filled) => filled.add(kid),
+        match &mut self.stock {
+            Stock::Nothing => self.add_behind(Filled::new(self.alloc), kid),
+            Stock::One(state) => {
+                let first = Kid::of_shared(Shared {
+                    state: Arc::try_clone(state)?,
+                });
+                let mut filled = Filled::new(self.alloc);
+                filled.add(first)?;
+                self.add_behind(filled, kid)
+            }
+            Stock::Many(filled) => filled.add(kid),
         }
     }
 
-    // What stands below the node is the kid alone.
-    fn add_first(&mut self, kid: Kid) -> Result<(), Memory>
-        ensures { OnOk result (self.new ≡ kid_parts kid) }
+    // What stands below the node is this, and the kid behind it.
+    fn add_behind(&mut self, filled: Filled, kid: Kid) -> Result<(), Memory>
+        ensures { OnOk result (self.new ≡ then_parts filled (kid_parts kid)) }
     {
-        let mut filled = Filled::new(self.alloc);
+        let mut filled = filled;
         filled.add(kid)?;
-        self.filled = Some(Box::new(self.alloc, filled)?);
+        self.stock = Stock::Many(Box::new(self.alloc, filled)?);
         Ok(())
     }
 
@@ -173,9 +193,10 @@ impl Below {
     pub(crate) fn sum(&self) -> Sum
         ensures { result ≡ sum_of self.now }
     {
-        match &self.filled {
-            None => Sum::nothing(),
-            Some(filled) => filled.sum(),
+        match &self.stock {
+            Stock::Nothing => Sum::nothing(),
+            Stock::One(state) => state.sum(),
+            Stock::Many(filled) => filled.sum(),
         }
     }
 
@@ -190,9 +211,10 @@ impl Below {
     pub(crate) fn call_at(&self, position: usize) -> Option<&State>
         ensures { option_copied result ≡ call_at self.now position }
     {
-        match &self.filled {
-            None => None,
-            Some(filled) => filled.call_at(position),
+        match &self.stock {
+            Stock::Nothing => None,
+            Stock::One(state) => first_alone(state, position),
+            Stock::Many(filled) => filled.call_at(position),
         }
     }
 
@@ -200,9 +222,12 @@ impl Below {
     pub(crate) fn add_calls(&self, calls: &mut List<Shared>) -> Result<(), Memory>
         ensures { OnOk result (calls.new ≡ calls.old ++ row_in self.now) }
     {
-        match &self.filled {
-            None => Ok(()),
-            Some(filled) => filled.add_calls(calls),
+        match &self.stock {
+            Stock::Nothing => Ok(()),
+            Stock::One(state) => calls.push(Shared {
+                state: Arc::try_clone(state)?,
+            }),
+            Stock::Many(filled) => filled.add_calls(calls),
         }
     }
 
@@ -224,19 +249,35 @@ impl Below {
     pub(crate) fn with_call(&self, position: usize, call: State) -> Result<Below, Memory>
         ensures { IfOk result (λ below. below ≡ replaced self.now position call) }
     {
-        match &self.filled {
-            None => Ok(Below::new(self.alloc)),
-            Some(filled) => Below::of(self.alloc, filled.with_call(position, call)?),
+        match &self.stock {
+            Stock::Nothing => Ok(Below::new(self.alloc)),
+            Stock::One(state) => self.with_one(state, position, call),
+            Stock::Many(filled) => Below::of(self.alloc, filled.with_call(position, call)?),
         }
+    }
+
+    // The same of a call that stands there alone.
+    fn with_one(&self, state: &Arc<Summed>, position: usize, call: State) -> Result<Below, Memory>
+        ensures { IfOk result (λ below. below ≡ replaced (row_of (state.now.value ∷ [])) position call) }
+    {
+        let state = match position {
+            0 => Shared::new(call)?.into_arc(),
+            _ => Arc::try_clone(state)?,
+        };
+        Ok(Below {
+            stock: Stock::One(state),
+            alloc: self.alloc,
+        })
     }
 
     #[cycle(first_want)]
     pub(crate) fn first_want(&self, kind: WantKind) -> Option<&Want>
         ensures { option_copied result ≡ find (is_of kind) (wants_in (lines_below self.now)) }
     {
-        match &self.filled {
-            None => None,
-            Some(filled) => filled.first_want(kind),
+        match &self.stock {
+            Stock::Nothing => None,
+            Stock::One(state) => state.state.first_want(kind),
+            Stock::Many(filled) => filled.first_want(kind),
         }
     }
 
@@ -244,9 +285,10 @@ impl Below {
     pub(crate) fn first_beginning(&self) -> Option<&Path>
         ensures { option_copied result ≡ first (beginnings_in (lines_below self.now)) }
     {
-        match &self.filled {
-            None => None,
-            Some(filled) => filled.first_beginning(),
+        match &self.stock {
+            Stock::Nothing => None,
+            Stock::One(state) => state.state.first_beginning(),
+            Stock::Many(filled) => filled.first_beginning(),
         }
     }
 
@@ -254,9 +296,10 @@ impl Below {
     pub(crate) fn tell(&self, told: &mut Told) -> Result<(), Memory>
         ensures { OnOk result (told.new ≡ told_with told.old (lines_below self.now)) }
     {
-        match &self.filled {
-            None => Ok(()),
-            Some(filled) => filled.tell(told),
+        match &self.stock {
+            Stock::Nothing => Ok(()),
+            Stock::One(state) => state.state.tell(told),
+            Stock::Many(filled) => filled.tell(told),
         }
     }
 
@@ -264,9 +307,10 @@ impl Below {
     pub(crate) fn find_want<T: WantTest>(&self, kind: WantKind, test: &T) -> Option<&Want>
         ensures { option_copied result ≡ find (passes kind (T.accepts test.now)) (wants_in (lines_below self.now)) }
     {
-        match &self.filled {
-            None => None,
-            Some(filled) => filled.find_want(kind, test),
+        match &self.stock {
+            Stock::Nothing => None,
+            Stock::One(state) => state.state.find_want(kind, test),
+            Stock::Many(filled) => filled.find_want(kind, test),
         }
     }
 
@@ -274,9 +318,10 @@ impl Below {
     pub(crate) fn find_node<T: NodeTest>(&self, test: &T) -> Option<&Node>
         ensures { option_copied result ≡ find (T.accepts test.now) (nodes_in (lines_below self.now)) }
     {
-        match &self.filled {
-            None => None,
-            Some(filled) => filled.find_node(test),
+        match &self.stock {
+            Stock::Nothing => None,
+            Stock::One(state) => state.state.find_node(test),
+            Stock::Many(filled) => filled.find_node(test),
         }
     }
 
@@ -284,9 +329,10 @@ impl Below {
     pub(crate) fn next_timer(&self, clock: u64) -> Option<u64>
         ensures { result ≡ next_tick clock (wants_in (lines_below self.now)) }
     {
-        match &self.filled {
-            None => None,
-            Some(filled) => filled.next_timer(clock),
+        match &self.stock {
+            Stock::Nothing => None,
+            Stock::One(state) => state.state.next_timer(clock),
+            Stock::Many(filled) => filled.next_timer(clock),
         }
     }
 
@@ -302,9 +348,20 @@ impl Below {
         ensures { option_map (λ f. (f.0, f.1.now)) result
             ≡ found_at from at (T.accepts test.now) (pods_in (wants_in (lines_below self.now))) }
     {
-        match &self.filled {
-            None => None,
-            Some(filled) => filled.find_pod_at(at, from, test),
+        match &self.stock {
+            Stock::Nothing => None,
+            Stock::One(state) => state.state.find_pod_at(at, from, test),
+            Stock::Many(filled) => filled.find_pod_at(at, from, test),
         }
+    }
+}
+
+// The call that stands alone, where it is the one of this position.
+fn first_alone(state: &Arc<Summed>, position: usize) -> Option<&State>
+    ensures { option_copied result ≡ call_at (row_of (state.now.value ∷ [])) position }
+{
+    match position {
+        0 => Some(&state.state),
+        _ => None,
     }
 }

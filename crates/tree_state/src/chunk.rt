@@ -80,7 +80,7 @@ impl Chunk {
     }
 
     // Nothing, with room for so many kids.
-    fn with_room(alloc: Global, room: usize) -> Result<Chunk, Memory>
+    pub(crate) fn with_room(alloc: Global, room: usize) -> Result<Chunk, Memory>
         ensures { IfOk result (λ chunk. chunk ≡ nothing) }
     {
         Ok(Chunk {
@@ -187,7 +187,7 @@ impl Chunk {
                 None => None,
                 Some(kid) => match &kid.state {
                     None => None,
-                    Some(state) => Some(state),
+                    Some(state) => Some(&state.state),
                 },
             };
         }
@@ -195,7 +195,7 @@ impl Chunk {
         for kid in &self.kids {
             if let Some(state) = &kid.state {
                 if left == 0 {
-                    return Some(state);
+                    return Some(&state.state);
                 }
                 left -= 1;
             }

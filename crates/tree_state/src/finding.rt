@@ -184,7 +184,7 @@ impl Kid {
         }
         match &self.state {
             None => None,
-            Some(state) => state.find_want(kind, test),
+            Some(state) => state.state.find_want(kind, test),
         }
     }
 
@@ -195,7 +195,7 @@ impl Kid {
     {
         match &self.state {
             None => None,
-            Some(state) => state.find_node(test),
+            Some(state) => state.state.find_node(test),
         }
     }
 
@@ -218,7 +218,7 @@ impl Kid {
         let own = self.own_timer(clock);
         match &self.state {
             None => own,
-            Some(state) => sooner(own, state.next_timer(clock)),
+            Some(state) => sooner(own, state.state.next_timer(clock)),
         }
     }
 }

@@ -7,6 +7,7 @@ ghost use Rattle.meaning.specs.Trees.{wants_in};
 ghost use Rattle.tree_state.specs.Asking.{is_of};
 ghost use Rattle.tree_state.specs.Inside.Kids.{own_line, line_then, state_then};
 
+use crate::below::Stock;
 use crate::chunk::Chunk;
 use crate::filled::Filled;
 use crate::state::{Kid, Line};
@@ -81,7 +82,7 @@ impl Kid {
         self.add_own(kind, wants)?;
         match &self.state {
             None => Ok(()),
-            Some(state) => state.add_wants(kind, wants),
+            Some(state) => state.state.add_wants(kind, wants),
         }
     }
 }
@@ -124,9 +125,10 @@ impl Below {
         ensures { OnOk result
             (wants.new ≡ wants.old ++ filter (is_of kind) (wants_in (lines.lines_below self.now))) }
     {
-        match &self.filled {
-            None => Ok(()),
-            Some(filled) => filled.add_wants(kind, wants),
+        match &self.stock {
+            Stock::Nothing => Ok(()),
+            Stock::One(state) => state.state.add_wants(kind, wants),
+            Stock::Many(filled) => filled.add_wants(kind, wants),
         }
     }
 }

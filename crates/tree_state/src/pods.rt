@@ -41,7 +41,12 @@ impl State {
 
     // The first pod that is found, where the first of all has a position.
     #[cycle(find_pod)]
-    fn find_pod_at<T: WantTest>(&self, at: usize, from: usize, test: &T) -> Option<(usize, &Want)>
+    pub(crate) fn find_pod_at<T: WantTest>(
+        &self,
+        at: usize,
+        from: usize,
+        test: &T,
+    ) -> Option<(usize, &Want)>
         requires { at + length (pods_in (wants_in (lines_in self.now))) < 2 ^ 64 }
         ensures { option_map (λ f. (f.0, f.1.now)) result
             ≡ found_at from at (T.accepts test.now) (pods_in (wants_in (lines_in self.now))) }
@@ -118,7 +123,7 @@ impl Kid {
     {
         match &self.state {
             None => 0,
-            Some(state) => state.count_pods(),
+            Some(state) => state.state.count_pods(),
         }
     }
 
@@ -150,7 +155,9 @@ impl Kid {
         }
         match &self.state {
             None => None,
-            Some(state) => state.find_pod_at(at + self.own_count(WantKind::Pod), from, test),
+            Some(state) => state
+                .state
+                .find_pod_at(at + self.own_count(WantKind::Pod), from, test),
         }
     }
 }

@@ -3,6 +3,7 @@
 ghost use Rattle.std.specs.Prelude.{◌≡◌, IfOk};
 
 use crate::State;
+use crate::state::Summed;
 use base_types::{Memory, TryCopy};
 use std::marker::Model;
 use std::sync::Arc;
@@ -10,7 +11,7 @@ use std::sync::Arc;
 /// What a call made. Copies share it.
 #[derive(Debug)]
 pub struct Shared {
-    pub(crate) state: Arc<State>,
+    pub(crate) state: Arc<Summed>,
 }
 
 // Written out, so that proofs about code that drops what is shared see one call.
@@ -38,11 +39,11 @@ impl Shared {
     {
         let alloc = state.node.name.allocator();
         Ok(Shared {
-            state: Arc::new(alloc, state)?,
+            state: Arc::new(alloc, Summed::of(state)?)?,
         })
     }
 
-    pub(crate) fn into_arc(self) -> Arc<State>
+    pub(crate) fn into_arc(self) -> Arc<Summed>
         ensures { result.value ≡ self }
     {
         let Shared { state } = self;
@@ -52,7 +53,7 @@ impl Shared {
     pub fn state(&self) -> &State
         ensures { result.now ≡ self.now }
     {
-        &self.state
+        &self.state.state
     }
 }
 

@@ -77,7 +77,64 @@ impl Line {
 #[derive(Debug, Drop)]
 pub(crate) struct Kid {
     pub(crate) line: Option<Arc<Line>>,
-    pub(crate) state: Option<Arc<State>>,
+    pub(crate) state: Option<Arc<Summed>>,
+}
+
+// What a call made, behind what is kept of it: of the calls beside one that changes, no more is read.
+#[cycle(state)]
+#[derive(Debug)]
+pub(crate) struct Summed {
+    sum: Sum,
+    pub(crate) state: State,
+}
+
+// Written out, so that proofs about code that drops it see one call.
+impl Drop for Summed {
+    #[cycle(state)]
+    fn drop(self) {
+        let Summed { sum: _, state: _ } = self;
+    }
+}
+
+impl Model for Summed {
+    ghost use Rattle.std.specs.Prelude.{◌≡◌, [], ◌∷◌};
+    ghost use Rattle.meaning.specs.Lines.{Made, row_of};
+    ghost use Rattle.tree_state.specs.MadeCode.{made_code};
+
+    ghost Value = { Made };
+
+    ghost coded = { made_code };
+
+    ghost use Rattle.tree_state.specs.Inside.Sums.{sum_of};
+
+    ghost view = { λ a. a.state };
+
+    ghost invariant = { λ a. a.sum ≡ sum_of (row_of (a.state ∷ [])) };
+
+    ghost use Rattle.tree_state.specs.Inside.Sizes.{summed_size};
+
+    ghost size = { summed_size };
+
+    ghost use Rattle.std.proofs.Common.{arith};
+
+    ghost size_decreases = { λ a h. Prim.omega arith };
+}
+
+impl Summed {
+    /// The state, with what is kept of it.
+    pub(crate) fn of(state: State) -> Result<Summed, Memory>
+        ensures { IfOk result (λ summed. summed ≡ state) }
+    {
+        let sum = state.sum()?;
+        Ok(Summed { sum, state })
+    }
+
+    /// What is kept of it.
+    pub(crate) fn sum(&self) -> Sum
+        ensures { result ≡ sum_of (lines.row_of (self.now ∷ [])) }
+    {
+        self.sum
+    }
 }
 
 /// What a call makes: its node, what the node asks for, what others see of the call, and what stands below it. Contracts see
@@ -393,9 +450,7 @@ impl Kid {
     pub(crate) fn of(state: State) -> Result<Kid, Memory>
         ensures { IfOk result (λ kid. kid_parts kid ≡ lines.row_of (state ∷ [])) }
     {
-        let alloc = state.node.name.allocator();
-        let state = Some(Arc::new(alloc, state)?);
-        Ok(Kid { line: None, state })
+        Ok(Kid::of_shared(Shared::new(state)?))
     }
 
     /// What a call made, which is shared.
@@ -419,11 +474,11 @@ impl Kid {
     }
 
     // What is kept of the kid's call.
-    fn call_sum(&self) -> Result<Sum, Memory>
-        ensures { IfOk result (λ sum. sum ≡ sum_of (state_then self.now.state nothing)) }
+    fn call_sum(&self) -> Sum
+        ensures { result ≡ sum_of (state_then self.now.state nothing) }
     {
         match &self.state {
-            None => Ok(Sum::nothing()),
+            None => Sum::nothing(),
             Some(state) => state.sum(),
         }
     }
@@ -433,10 +488,10 @@ impl Kid {
         ensures { IfOk result (λ sum. sum ≡ sum_of (kid_parts self.now)) }
     {
         match &self.line {
-            None => self.call_sum(),
+            None => Ok(self.call_sum()),
             Some(_) => {
                 let own = self.own_sum()?;
-                let call = self.call_sum()?;
+                let call = self.call_sum();
                 let both = own.and(call)?;
                 Ok(both)
             }
@@ -452,7 +507,7 @@ impl Kid {
         }
     }
 
-    fn own_state(&self) -> Result<Option<Arc<State>>, Memory>
+    fn own_state(&self) -> Result<Option<Arc<Summed>>, Memory>
         ensures { IfOk result (λ state. (more : Parts) → state_then state more ≡ state_then self.now.state more) }
     {
         match &self.state {
@@ -498,8 +553,7 @@ impl Kid {
         if *left > 0 {
             *left -= 1;
         } else if let Some(call) = call.take() {
-            let alloc = call.node.name.allocator();
-            let state = Some(Arc::new(alloc, call)?);
+            let state = Some(Shared::new(call)?.into_arc());
             return Ok(Kid { line, state });
         }
         let state = self.own_state()?;
@@ -527,7 +581,7 @@ impl Kid {
         }
         match &self.state {
             None => None,
-            Some(state) => state.first_want(kind),
+            Some(state) => state.state.first_want(kind),
         }
     }
 
@@ -552,7 +606,7 @@ impl Kid {
         }
         match &self.state {
             None => None,
-            Some(state) => state.first_beginning(),
+            Some(state) => state.state.first_beginning(),
         }
     }
 
@@ -566,7 +620,7 @@ impl Kid {
         told.add_line(&self.line)?;
         match &self.state {
             None => Ok(()),
-            Some(state) => state.tell(told),
+            Some(state) => state.state.tell(told),
         }
     }
 }

@@ -48,7 +48,7 @@ filled::Filled::find_pod_at-find_pod_at-requires g t c =
     let split : ws ≡ own ++ rest = chunks_read (λ (a b : List Want). a ++ b) pods_among pods_then cs last i item c.loop-chunk-test.true c.chunk-item.is in
     let few : c.loop-chunk.next + length (pods_among (lines_below c.deref.result.now)) < 2 ^ 64 = omega (arith, fits c.args.from p (found_at c.args.from c.args.at p all) (c.args.at + length all) c.loop-chunk.next ws own rest split c.loop-chunk.invariant (length own) refl c.requires, ap (λ (q : Parts). length (pods_among (lines_below q))) c.deref.ensures) in
     let within : i < length cs = c.loop-chunk-test.true in
-    let lower : chunk_size c.deref.result.now + 1 ≤ 4 * count_below c.args.self.now + 2 = omega (arith, ap chunk_size c.deref.ensures, ap (λ (x : Arc Parts Global). chunk_size x.value) c.chunk-item.is, at_most (λ (x : Arc Parts Global). chunk_size x.value + 1) cs i item within, chunks_are_lower cs, both_counted (all_of cs) last, ap (λ (ds : List (Arc Parts Global)). count_below (all_of ds)) c.deref-chunk-items.ensures.value, both_counted (all_of c.self.inside.full.items) last, ap count_below c.self.view_is) in
+    let lower : chunk_size c.deref.result.now + 1 ≤ 6 * count_below c.args.self.now + 3 = omega (arith, ap chunk_size c.deref.ensures, ap (λ (x : Arc Parts Global). chunk_size x.value) c.chunk-item.is, at_most (λ (x : Arc Parts Global). chunk_size x.value + 1) cs i item within, chunks_are_lower cs, both_counted (all_of cs) last, ap (λ (ds : List (Arc Parts Global)). count_below (all_of ds)) c.deref-chunk-items.ensures.value, both_counted (all_of c.self.inside.full.items) last, ap count_below c.self.view_is) in
     λ κs le. (omega (arith, lower, c.decreases), (search rules, few))
 
 pub filled::Filled::find_pod_at-find_pod_at-requires-2 : goal.filled::Filled::find_pod_at-find_pod_at-requires-2
@@ -60,7 +60,7 @@ filled::Filled::find_pod_at-find_pod_at-requires-2 g t c =
     let i = c.loop-chunk.chunk-index in
     let end : length cs ≤ i = omega (arith, c.loop-chunk-test.false) in
     let few : c.loop-chunk.next + length (pods_among (lines_below last)) < 2 ^ 64 = omega (arith, c.loop-chunk.invariant.1, ap (λ (q : Parts). length (pods_among (lines_below q))) (last_left cs last i end), c.requires) in
-    let lower : chunk_size last + 1 ≤ 4 * count_below c.args.self.now + 2 = omega (arith, both_counted (all_of c.self.inside.full.items) last, ap count_below c.self.view_is) in
+    let lower : chunk_size last + 1 ≤ 6 * count_below c.args.self.now + 3 = omega (arith, both_counted (all_of c.self.inside.full.items) last, ap count_below c.self.view_is) in
     λ κs le. (omega (arith, lower, c.decreases), (search rules, few))
 
 pub filled::Filled::find_pod_at-returns-in-Some : goal.filled::Filled::find_pod_at-returns-in-Some
@@ -113,7 +113,7 @@ chunk::Chunk::find_pod_at-find_pod_at-requires g t c =
     let kids = c.self.inside.kids.items in
     let here : c.kid-item.result ≡ get_or kids c.loop-kid.kid-index c.kid-item.result = c.kid-item.is ∙ ap (λ (ks : List Kid). get_or ks c.loop-kid.kid-index c.kid-item.result) c.deref-kid-items.ensures.value in
     let within : c.loop-kid.kid-index < length kids = subst (λ (ks : List Kid). c.loop-kid.kid-index < length ks) c.deref-kid-items.ensures.value c.loop-kid-test.true in
-    let lower : deep-Kid c.kid-item.result ≤ 4 * count_below c.args.self.now + 1 = omega (arith, ap (λ (k : Kid). deep-Kid k) here, at_most (λ k. deep-Kid k) kids c.loop-kid.kid-index c.kid-item.result within, kids_are_lower kids, ap count_below c.self.view_is) in
+    let lower : deep-Kid c.kid-item.result ≤ 6 * count_below c.args.self.now + 2 = omega (arith, ap (λ (k : Kid). deep-Kid k) here, at_most (λ k. deep-Kid k) kids c.loop-kid.kid-index c.kid-item.result within, kids_are_lower kids, ap count_below c.self.view_is) in
     λ κs le. (omega (arith, lower, c.decreases), (search rules, few))
 
 pub chunk::Chunk::find_pod_at-returns-in-Some : goal.chunk::Chunk::find_pod_at-returns-in-Some

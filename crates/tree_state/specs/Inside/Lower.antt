@@ -17,7 +17,7 @@ line_alone (MayBegin p) more = refl
 line_alone (Asks w) more = refl
 
 kid_lower : (l : Option (Arc Line Global)) (s : Option (Arc Made Global)) (more : Parts) →
-    deep-Kid (record { line = l; state = s }) ≤ 4 * count_below (line_then l (state_then s more)) + 1
+    deep-Kid (record { line = l; state = s }) ≤ 6 * count_below (line_then l (state_then s more)) + 2
 kid_lower None None more = omega arith
 kid_lower None (Some s) more = omega arith
 kid_lower (Some l) None more = omega arith
@@ -29,7 +29,7 @@ rest_lower None (Some s) more = omega arith
 rest_lower (Some l) None more = omega (arith, line_alone l.value more)
 rest_lower (Some l) (Some s) more = omega (arith, line_alone l.value (state_then (Some s) more))
 
-pub kids_are_lower : (kids : List Kid) → most (λ k. deep-Kid k) kids ≤ 4 * count_below (parts_of kids) + 1
+pub kids_are_lower : (kids : List Kid) → most (λ k. deep-Kid k) kids ≤ 6 * count_below (parts_of kids) + 2
 kids_are_lower [] = omega arith
 kids_are_lower (k ∷ ks) =
     omega (arith, kid_lower k.line k.state (parts_of ks), rest_lower k.line k.state (parts_of ks), kids_are_lower ks)

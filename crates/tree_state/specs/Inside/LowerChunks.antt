@@ -14,6 +14,6 @@ both_counted (call own inner rest) q = omega (arith, both_counted rest q)
 both_counted (may_begin p rest) q = both_counted rest q
 both_counted (asks w rest) q = both_counted rest q
 
-pub chunks_are_lower : (cs : List (Arc Parts Global)) → most (λ (c : Arc Parts Global). chunk_size c.value + 1) cs ≤ 4 * count_below (all_of cs) + 2
+pub chunks_are_lower : (cs : List (Arc Parts Global)) → most (λ (c : Arc Parts Global). chunk_size c.value + 1) cs ≤ 6 * count_below (all_of cs) + 3
 chunks_are_lower [] = omega arith
 chunks_are_lower (c ∷ cs) = omega (arith, both_counted c.value (all_of cs), chunks_are_lower cs)

@@ -29,7 +29,7 @@ pub returns-in-Some-state : goal.returns-in-Some-state
 returns-in-Some-state c =
     let kids = c.self.inside.kids.items in
     let count : length (row_in (parts_of kids)) ≡ length kids = sym (ap (λ (s : Sum). s.calls) c.self.invariant) ∙ c.if-self-len.true ∙ c.len.ensures ∙ sym c.deref.ensures.len ∙ ap (λ (ks : List Kid). length ks) c.deref.ensures.value in
-    ap Some c.deref-in-Some-state.ensures
+    ap Some (c.behind-state.view_is ∙ c.deref-in-Some-state.ensures)
     ∙ ap (λ (s : Option (Arc Made Global)). option_map (λ (a : Arc Made Global). a.value) s) (sym c.in-Some-state.is)
     ∙ ap (λ r. made_at (option_copied r)) (sym c.in-Some.is)
     ∙ sym (lent_call c.args.self.now c.deref.result.now kids c.args.position c.get.result c.self.view_is c.deref.ensures.value count c.get.ensures.lookup)

@@ -48,7 +48,7 @@ returns-then-is_some c =
     let end : length cs ≤ c.loop-chunk.chunk-index = omega (arith, c.loop-chunk-test.false) in
     let now = ap (λ (p : Parts). option_map (then_parts full) (begun_by p path c.loop-chunk.call)) (sym (last_left cs last c.loop-chunk.chunk-index end)) ∙ c.loop-chunk.invariant.0 in
     none_before full last (begun c.args.self.now path c.args.call) path c.loop-chunk.call
-    (left_over c.in_ok-last.last last path c.loop-chunk.call c.or_begun.new.call c.in_ok-last.ensures (sym c.is_some.ensures ∙ c.if-is_some.true))
+    (left_over c.in_ok-last.last last path c.loop-chunk.call c.copied_or_begun.new.call c.in_ok-last.ensures (sym c.is_some.ensures ∙ c.if-is_some.true))
     now
 
 pub invariant_of-result : goal.invariant_of-result
@@ -64,5 +64,5 @@ returns c =
     let end : length cs ≤ c.loop-chunk.chunk-index = omega (arith, c.loop-chunk-test.false) in
     let now = ap (λ (p : Parts). option_map (then_parts full) (begun_by p path c.loop-chunk.call)) (sym (last_left cs last c.loop-chunk.chunk-index end)) ∙ c.loop-chunk.invariant.0 in
     some_before full c.in_ok-last.last last (begun c.args.self.now path c.args.call) path c.loop-chunk.call
-    (has_begun c.in_ok-last.last last path c.loop-chunk.call c.or_begun.new.call c.in_ok-last.ensures (sym c.is_some.ensures ∙ c.if-is_some.false))
+    (has_begun c.in_ok-last.last last path c.loop-chunk.call c.copied_or_begun.new.call c.in_ok-last.ensures (sym c.is_some.ensures ∙ c.if-is_some.false))
     now

@@ -4,4 +4,4 @@ use Rattle.tree_state.proofs.state.Kid.sum.Goals as goal
 
 pub returns-in_ok-both-in-Some : goal.returns-in_ok-both-in-Some
 returns-in_ok-both-in-Some c =
-    kid_summed c.args.self.now.line c.args.self.now.state c.in_ok-own-in-Some.own c.in_ok-call-in-Some.call c.in_ok-both-in-Some.both c.in_ok-own-in-Some.ensures c.in_ok-call-in-Some.ensures c.in_ok-both-in-Some.ensures
+    kid_summed c.args.self.now.line c.args.self.now.state c.in_ok-own-in-Some.own c.call_sum-call.result c.in_ok-both-in-Some.both c.in_ok-own-in-Some.ensures c.call_sum-call.ensures c.in_ok-both-in-Some.ensures

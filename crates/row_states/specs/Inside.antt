@@ -1,2 +1,0 @@
--- What speaks only of private code.
-pub mod Members
