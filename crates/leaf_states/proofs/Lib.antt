@@ -1,3 +1,4 @@
 pub mod Rows
+pub mod Suspensions
 pub mod Tries
 pub mod Turns

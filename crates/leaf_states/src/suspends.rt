@@ -1,8 +1,9 @@
 //! States of suspended nodes.
 
-ghost use Rattle.std.specs.Prelude.{◌≡◌, [], false, Ok, IfOk};
+ghost use Rattle.std.specs.Prelude.{◌≡◌, ◌||◌, [], Bool, false, Ok, IfOk};
 ghost use Rattle.meaning.specs.Suspends as suspends;
 ghost use Rattle.tree_state.specs.Counting.{Gives};
+ghost use Rattle.suspend_resume.specs.Suspension.{IsPhase};
 
 use crate::lone;
 use crate::making::{asking, silent};
@@ -12,6 +13,7 @@ use call_texts::{Halt, seconds_of};
 use meaning::Place;
 use recorded::Recorded;
 use scopes::Scope;
+use suspend_resume::suspend_phase;
 use tag_text::TagText;
 use tree_state::{Room, State, TreeRefused};
 use tree_types::{Kind, Note, Path, Phase, Want};
@@ -47,10 +49,10 @@ fn suspended_for<R: Recorded>(
     ensures { Gives room.old room.new result
         (suspends.suspended (R.answers recorded.now) place declared.now (Ok seconds)) }
 {
-    let over = recorded.due(&place.sels) || recorded.resumed(&place.sels);
+    let phase = suspend_phase(recorded.due(&place.sels), recorded.resumed(&place.sels));
     let armed = recorded.armed(&place.sels);
     room.take()?;
-    Ok(suspended_by(place, declared, seconds, armed, over)?)
+    Ok(suspended_by(place, declared, seconds, armed, phase)?)
 }
 
 fn suspended_by(
@@ -58,15 +60,14 @@ fn suspended_by(
     declared: &OutputDecls,
     seconds: Option<u64>,
     armed: Option<u64>,
-    over: bool,
+    phase: Phase,
 ) -> Result<State, Memory>
-    ensures { IfOk result
-        (λ state. state ≡ suspends.suspend_by place declared.now seconds armed over) }
+    ensures { (due resumed : Bool) → IsPhase due resumed phase → IfOk result
+        (λ state. state ≡ suspends.suspend_by place declared.now seconds armed (due || resumed)) }
 {
-    if over {
-        Ok(silent(suspended_node(place, declared)?))
-    } else {
-        still_suspended(place, seconds, armed)
+    match phase {
+        Phase::Succeeded => Ok(silent(suspended_node(place, declared)?)),
+        _ => still_suspended(place, seconds, armed),
     }
 }
 

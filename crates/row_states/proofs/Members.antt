@@ -1,16 +1,14 @@
--- The members of a group, from the last to the first.
+-- The members of a group, one by one.
 use Rattle.std.proofs.Common.{◌≡◌, ℕ, zero, suc, ◌+◌, ◌-◌, ◌<◌, min, List, [], ◌∷◌, ◌++◌, length, drop, Some, refl, ap, ap₂, sym, ◌∙◌, arith}
-use Rattle.std.specs.Prelude.{map, zip, slice_get, codes, if◌then◌else◌}
-use Rattle.tree_types.specs.declared.phase.Phase.{Phase}
-use Rattle.tree_types.specs.declared.phase.Phase.TheVariants.{Running}
-use Rattle.tree_types.specs.Phases.{worst, worst_of}
+use Rattle.std.specs.Prelude.{map, zip, slice_get, codes}
 use Rattle.wf_manifest.specs.declared.calls.Call.{Call}
 use Rattle.scopes.specs.Substitution.{Scope, value_in}
 use Rattle.scopes.specs.Values.{HasValuesOf}
 use Rattle.scopes.proofs.ValueIn.{drop_place, append_alike}
-use Rattle.meaning.specs.Lines.{Made, all_finished, tags_of}
-use Rattle.meaning.specs.Steps.{Member, makings, member_phase, group_phase, group_tags}
-use Rattle.row_states.specs.Inside.Members.{phase_over}
+use Rattle.meaning.specs.Lines.{Made, tags_of}
+use Rattle.meaning.specs.Steps.{Member, makings, group_tags}
+use Rattle.steps_template.specs.declared.groups.Member.{Member as Seen}
+use Rattle.steps_template.specs.Opened.{seen}
 
 -- ---- they are their calls and what these made
 
@@ -21,10 +19,6 @@ zipped (m ∷ ms) = ap (λ (rest : List Member). m ∷ rest) (zipped ms)
 module _ (ms : List Member) (cs : List Call) (made : List Made) (calls : map (λ (m : Member). m.0) ms ≡ cs) (makes : makings ms ≡ made) where
   pub are_members : zip cs made ≡ ms
   are_members = sym (ap₂ (λ (c : List Call) (m : List Made). zip c m) calls makes) ∙ zipped ms
-
-  pub phase_of_members : phase_over cs made ≡ group_phase ms
-  phase_of_members =
-      ap₂ (λ (m : List Made) (z : List Member). if all_finished m then worst_of (map member_phase z) else Running) (sym makes) are_members
 
   -- their tags, once none is left
   pub tags_of_members : (left : ℕ) (tags : Scope) → left ≡ 0 → HasValuesOf tags (group_tags (drop left (zip cs made))) → HasValuesOf tags (group_tags ms)
@@ -63,12 +57,6 @@ module _ (cs : List Call) (ms : List Made) (left : ℕ) (c : Call) (m : Made) (s
       drop_place (zip cs ms) (left - 1) (c, m) (member_at cs ms (left - 1) c m at there)
       ∙ ap (λ (n : ℕ). (c, m) ∷ drop n (zip cs ms)) place
 
-  pub worst_with : (old new : Phase) → new ≡ worst (member_phase (c, m)) old → old ≡ worst_of (map member_phase (drop left (zip cs ms)))
-      → new ≡ worst_of (map member_phase (drop (left - 1) (zip cs ms)))
-  worst_with old new is told =
-      is ∙ ap (λ (p : Phase). worst (member_phase (c, m)) p) told
-      ∙ ap (λ (z : List Member). worst_of (map member_phase z)) (sym one_more)
-
   pub tags_with : (old new : Scope) → HasValuesOf new (tags_of (codes "steps." ++ c.name) m ++ old) → HasValuesOf old (group_tags (drop left (zip cs ms)))
       → HasValuesOf new (group_tags (drop (left - 1) (zip cs ms)))
   tags_with old new added told q =
@@ -76,3 +64,20 @@ module _ (cs : List Call) (ms : List Made) (left : ℕ) (c : Call) (m : Made) (s
       added q
       ∙ append_alike its old (group_tags (drop left (zip cs ms))) told q
       ∙ ap (λ (z : List Member). value_in (group_tags z) q) (sym one_more)
+
+-- ---- how they stand, from the first to the last
+
+then_one : (old : List Seen) (x : Seen) (more : List Seen) → (old ++ x ∷ []) ++ more ≡ old ++ x ∷ more
+then_one [] x more = refl
+then_one (y ∷ old) x more = ap (λ (rest : List Seen). y ∷ rest) (then_one old x more)
+
+pub seen_with :
+    (cs : List Call) (ms : List Made) (i : ℕ) (c : Call) (m : Made) (old new : List Seen) (x : Seen) →
+    slice_get cs i ≡ Some c → slice_get ms i ≡ Some m → new ≡ old ++ x ∷ [] → x ≡ seen (c, m) →
+    new ++ map seen (drop (i + 1) (zip cs ms)) ≡ old ++ map seen (drop i (zip cs ms))
+seen_with cs ms i c m old new x at there is its =
+    let left : List Seen = map seen (drop (i + 1) (zip cs ms)) in
+    ap (λ (xs : List Seen). xs ++ left) is
+    ∙ then_one old x left
+    ∙ ap (λ (y : Seen). old ++ y ∷ left) its
+    ∙ ap (λ (rest : List Member). old ++ map seen rest) (sym (drop_place (zip cs ms) i (c, m) (member_at cs ms i c m at there)))

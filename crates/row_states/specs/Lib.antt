@@ -1,4 +1,3 @@
-pub mod Inside
 pub mod Rows
 pub use Rattle.meaning.specs.Lines
 pub use Rattle.meaning.specs.Outputs

@@ -1,27 +1,27 @@
 //! Groups of steps.
 
 ghost use Rattle.std.specs.Prelude.{◌≡◌, List as Seq, map, zip, IfOk};
-ghost use Rattle.tree_types.specs.Phases as phases;
 ghost use Rattle.meaning.specs.Steps as steps;
 ghost use Rattle.scopes.specs.Values.{HasValuesOf};
-ghost use Rattle.row_states.specs.Inside.Members.{phase_over};
+ghost use Rattle.steps_template.specs.Opened.{phase_told, seen};
 
 use crate::row;
-use crate::rows::are_finished;
 use base_types::{List, Memory};
-use call_nodes::{add_tags_of, bare, covered};
+use call_nodes::{add_tags_of, bare};
 use meaning::Place;
 use scopes::Tags;
+use steps_template::law::tells_group;
+use steps_template::{GroupState, Member, Members, StepsStep, steps_next};
 use tree_state::{Shared, State};
-use tree_types::{Kind, Note, Phase, Wants, worst};
-use wf_manifest::Group;
+use tree_types::{Kind, Note, Phase, Wants};
+use wf_manifest::{Call, Group};
 
 /// The node of a group over its members, given what each of its calls made.
 pub fn group_state(place: Place, calls: &Group, states: List<Shared>) -> Result<State, Memory>
     ensures { (ms : Seq steps.Member) → map (λ m. m.0) ms ≡ calls.now → steps.makings ms ≡ states →
         IfOk result (λ s. s ≡ steps.group_made place ms) }
 {
-    let phase = group_phase(calls, &states);
+    let phase = group_phase(calls, &states)?;
     let node = bare(place, Kind::StepGroup, phase, Note::None);
     let wants = Wants::new(states.allocator());
     Ok(State::new(node, wants, row(states)?))
@@ -46,27 +46,52 @@ pub fn group_tags(calls: &Group, states: &List<Shared>) -> Result<Tags, Memory>
     Ok(tags)
 }
 
-fn group_phase(calls: &Group, states: &List<Shared>) -> Phase
-    ensures { result ≡ phase_over calls.now states.now }
+// The phase of a group, by what follows it.
+fn group_phase(calls: &Group, states: &List<Shared>) -> Result<Phase, Memory>
+    ensures { IfOk result (λ phase. phase ≡ steps.group_phase (zip calls.now states.now)) }
 {
-    if are_finished(states) {
-        worst_phase(calls, states)
-    } else {
-        Phase::Running
+    tells_group();
+    let members = members_of(calls, states)?;
+    let group = GroupState {
+        made: true,
+        members,
+    };
+    Ok(phase_said(steps_next(&[group])))
+}
+
+// The phase of groups that are made, by what follows them.
+fn phase_said(step: StepsStep) -> Phase
+    ensures { result ≡ phase_told step }
+{
+    match step {
+        StepsStep::Over(phase) => phase,
+        StepsStep::Wait | StepsStep::Open(_) => Phase::Running,
     }
 }
 
-// The worst phase of the members, as their group sees them.
-fn worst_phase(calls: &Group, states: &List<Shared>) -> Phase
-    ensures { result ≡ phases.worst_of (map steps.member_phase (zip calls.now states.now)) }
+// How the members of a group stand.
+fn members_of(calls: &Group, states: &List<Shared>) -> Result<Members, Memory>
+    ensures { IfOk result (λ members. members ≡ map seen (zip calls.now states.now)) }
 {
-    let mut phase = Phase::Succeeded;
-    let mut left = calls.len().min(states.len());
-    while left > 0 {
-        left -= 1;
-        let made = states.get(left).state();
-        let seen = covered(&calls.get(left).continue_on, made.phase());
-        phase = worst(seen, phase);
+    let count = calls.len().min(states.len());
+    let mut members = Members::with_capacity(states.allocator(), count)?;
+    for i in 0..count {
+        members.push(member_of(calls.get(i), states.get(i).state()))?;
     }
-    phase
+    Ok(members)
+}
+
+fn member_of(call: &Call, made: &State) -> Member
+    ensures { result ≡ seen (call.now, made.now) }
+{
+    let (covers_failed, covers_error) = match &call.continue_on {
+        None => (false, false),
+        Some(covered) => (covered.failed, covered.error),
+    };
+    Member {
+        phase: made.phase(),
+        finished: made.is_finished(),
+        covers_failed,
+        covers_error,
+    }
 }

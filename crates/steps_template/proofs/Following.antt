@@ -14,9 +14,9 @@ use Rattle.meaning.specs.Steps as meant
 use Rattle.meaning.specs.Steps.{Caller, covers_failed, covers_error, covered, makings, group_made, group_tags, Groups, groups_by, group_place, members_at, groups_from}
 use Rattle.steps_template.specs.declared.groups.Member.{Member}
 use Rattle.steps_template.specs.declared.groups.GroupState.{GroupState}
-use Rattle.steps_template.specs.declared.groups.StepsStep.TheVariants.{Open}
+use Rattle.steps_template.specs.declared.groups.StepsStep.TheVariants.{Open, Over}
 use Rattle.steps_template.specs.Groups.{member_phase, group_phase, stopped, next, next_from}
-use Rattle.steps_template.specs.Opened.{seen, made_state, unmade_state, states, GroupsFollow}
+use Rattle.steps_template.specs.Opened.{seen, made_state, unmade_state, states, phase_told, GroupsFollow, TellsGroup}
 use Rattle.steps_template.proofs.Turns.{after, turn}
 
 -- ---- a group is seen as it is meant
@@ -125,3 +125,17 @@ follows called place scope gs k = record {
   opens = λ few. (let same : 0 + k ≡ k = omega arith in opens_from called place gs k 0 0 scope few ∙ ap Open same);
   stops = λ e. ap (λ (n : ℕ). next (states called place n 0 scope gs)) e ∙ stops_from called place gs 0 0 scope;
 }
+
+-- ---- a group alone
+
+told_of : (p : Phase) → phase_told (after p (Over Succeeded)) ≡ p
+told_of Pending = refl
+told_of Running = refl
+told_of Succeeded = refl
+told_of Skipped = refl
+told_of Failed = refl
+told_of Error = refl
+told_of Omitted = refl
+
+pub tells_one : TellsGroup
+tells_one ms = ap phase_told (made_turn 0 ms []) ∙ told_of (meant.group_phase ms)

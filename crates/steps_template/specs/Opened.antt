@@ -1,12 +1,15 @@
 -- The groups of a steps template that the meaning lists are those that are opened.
 use Rattle.std.specs.Prelude.{◌≡◌, ◌<◌, ℕ, zero, suc, List, [], ◌∷◌, ◌++◌, length, map, true, false}
+use Rattle.tree_types.specs.declared.phase.Phase.{Phase}
+use Rattle.tree_types.specs.declared.phase.Phase.TheVariants.{Running}
 use Rattle.wf_manifest.specs.declared.calls.Call.{Call}
 use Rattle.scopes.specs.Substitution.{Scope}
 use Rattle.meaning.specs.declared.lines.Place.{Place}
-use Rattle.meaning.specs.Steps.{Caller, Member as Made_member, covers_failed, covers_error, group_tags, members_at, groups_from, steps_phase}
+use Rattle.meaning.specs.Steps.{Caller, Member as Made_member, covers_failed, covers_error, group_tags, members_at, groups_from, group_phase, steps_phase}
 use Rattle.steps_template.specs.declared.groups.Member.{Member}
 use Rattle.steps_template.specs.declared.groups.GroupState.{GroupState}
-use Rattle.steps_template.specs.declared.groups.StepsStep.TheVariants.{Open}
+use Rattle.steps_template.specs.declared.groups.StepsStep.{StepsStep}
+use Rattle.steps_template.specs.declared.groups.StepsStep.TheVariants.{Open, Wait, Over}
 use Rattle.steps_template.specs.Groups.{stopped, next}
 
 -- how a member stands
@@ -44,3 +47,13 @@ pub record Follows (called : Caller) (place : Place) (scope : Scope) (gs : List 
 abbrev pub GroupsFollow : Type 0
 GroupsFollow =
     (called : Caller) (place : Place) (scope : Scope) (gs : List (List Call)) (k : ℕ) → Follows called place scope gs k
+
+-- the phase of groups that are made, by what follows them: while one is waited for, they run
+abbrev pub phase_told : StepsStep → Phase
+phase_told (Over phase) = phase
+phase_told Wait = Running
+phase_told (Open i) = Running
+
+-- what follows a group alone tells the phase that the meaning gives the group
+abbrev pub TellsGroup : Type 0
+TellsGroup = (ms : List Made_member) → phase_told (next (made_state ms ∷ [])) ≡ group_phase ms

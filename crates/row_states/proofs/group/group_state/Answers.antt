@@ -5,12 +5,13 @@ use Rattle.tree_types.specs.declared.node.Kind.TheVariants as kind
 use Rattle.tree_types.specs.declared.node.Note.TheVariants as note
 use Rattle.tree_types.specs.declared.want.Want.{Want}
 use Rattle.meaning.specs.Lines.{Parts, row_of, node, made, no_outputs}
-use Rattle.row_states.proofs.Members.{phase_of_members}
+use Rattle.meaning.specs.Steps.{Member, group_phase}
+use Rattle.row_states.proofs.Members.{are_members}
 use Rattle.row_states.proofs.group.group_state.Goals as goal
 
 pub returns : goal.returns
 returns c = λ ms calls makes.
-    let phase = c.group_phase-phase.ensures ∙ phase_of_members ms c.args.calls.now c.args.states calls makes in
+    let phase = c.in_ok-phase.ensures ∙ ap (λ (z : List Member). group_phase z) (are_members ms c.args.calls.now c.args.states calls makes) in
     let its = c.bare-node.ensures ∙ ap (λ (p : Phase). node c.args.place kind.StepGroup p note.None no_outputs) phase in
     let below = c.in_ok-row.ensures ∙ ap row_of (sym makes) in
     c.new.ensures
