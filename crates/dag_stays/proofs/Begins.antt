@@ -1,4 +1,4 @@
--- A task that waits for no other and begins where no other task sees what it makes: the DAG runs on over one call more.
+-- A task that was ready begins where no other task sees what it makes: the DAG runs on over one call more.
 use Rattle.std.proofs.Common.{◌≡◌, ℕ, zero, suc, ◌+◌, List, [], ◌∷◌, ◌++◌, Bool, true, false, cond, not, ◌&&◌, ◌||◌, Option, Some, None, codes, refl, sym, ap, ◌∙◌, arith}
 use Rattle.std.specs.Prelude.{slice_get, option_map, map}
 use Rattle.std.specs.List.{list_all, list_any}
@@ -20,7 +20,9 @@ use Rattle.meaning.specs.declared.lines.Place.{Place}
 use Rattle.meaning.specs.Answers.{Sels, Answers, path}
 use Rattle.meaning.specs.Lines.{Made, Parts, nothing, call, may_begin, row_in, all_finished}
 use Rattle.meaning.specs.Steps.{Caller, covered}
-use Rattle.meaning.specs.Dags.{awaited, is_meant, Standing, waiting, ready, exists, is_over, branch_of, Look, Standings, look, task_place, free_by, meant, meant_by, standing, has_failed, targets, is_doomed, is_ready, is_at_rest, may_go_on, dag_phase, task_then, tasks_below, standings, dag_tags, dag_by, dag_made}
+use Rattle.depends_expr.specs.Expression.{Expression}
+use Rattle.depends_expr.specs.Truth.{truth, named}
+use Rattle.meaning.specs.Dags.{Names, awaited, named_by, parents, is_meant, Standing, waiting, ready, exists, is_over, branch_of, Look, Standings, look, task_place, tags_before, begun_task, free_by, decided_by, waits_by, result_of, meant, meant_by, standing, has_failed, targets, is_doomed, is_ready, is_at_rest, may_go_on, dag_phase, task_then, tasks_below, standings, dag_tags, dag_by, dag_made}
 use Rattle.meaning.specs.Calls.{calls}
 use Rattle.growth.specs.Rounds.{RoundsSettle}
 use Rattle.locality.specs.Answered.{SameBut}
@@ -32,16 +34,30 @@ use Rattle.dag_stays.proofs.RunsOn.{never, put, still_doomed, unfinished_runs, o
 
 -- ---- the task itself
 
-module _ (A B : Answers) (called other : Caller) (place : Place) (scope : Scope) (d : Dag) (l : Look) (j : ℕ) (t : Task) (alone : awaited d.tasks t ≡ None) where
-  begins_by : (b : Bool) → meant_by B other place scope d l j t b ≡ ready → (not d.fail_fast || A.begun (task_place place j t).sels) ≡ true →
-      meant_by A called place scope d l j t b ≡ exists (called (codes "tasks.") (task_place place j t) scope t.call) (covered t.call.continue_on (called (codes "tasks.") (task_place place j t) scope t.call).own.node.phase) []
-  begins_by false was begins = absurd (cc was)
-  begins_by true was begins = ap (meant A called place scope d l j t) alone ∙ ap (free_by A called place scope d [] j t) begins
+module _ (A B : Answers) (called other : Caller) (place : Place) (scope : Scope) (d : Dag) (l : Look) (j : ℕ) (t : Task) (begins : (not d.fail_fast || A.begun (task_place place j t).sels) ≡ true) where
+  abbrev begun_behind : Names → Standing
+  begun_behind ns = begun_task A called place scope d (tags_before l ns) j t
 
-  begins_as : (z : Made) → z ≡ called (codes "tasks.") (task_place place j t) scope t.call → standing B other place scope d l j t ≡ ready → (not d.fail_fast || A.begun (task_place place j t).sels) ≡ true →
-      standing A called place scope d l j t ≡ exists z (covered t.call.continue_on z.own.node.phase) []
-  begins_as z is was begins =
-      begins_by (is_meant d t) was begins ∙ (λ k. exists (sym is k) (covered t.call.continue_on (sym is k).own.node.phase) [])
+  begins_decided : (e : Expression) (b : Bool) → decided_by B other place scope d l j t e b ≡ ready → decided_by A called place scope d l j t e b ≡ begun_behind (named e)
+  begins_decided e false was = absurd (cc was)
+  begins_decided e true was = ap (free_by A called place scope d (tags_before l (named e)) j t) begins
+
+  begins_waits : (e : Expression) (b : Bool) → waits_by B other place scope d l j t e b ≡ ready → waits_by A called place scope d l j t e b ≡ begun_behind (named e)
+  begins_waits e false was = absurd (cc was)
+  begins_waits e true was = begins_decided e (truth (λ n. result_of (l n)) e) was
+
+  begins_meant : (w : Option Expression) → meant B other place scope d l j t w ≡ ready → meant A called place scope d l j t w ≡ begun_behind (named_by w)
+  begins_meant None was = ap (free_by A called place scope d [] j t) begins
+  begins_meant (Some e) was = begins_waits e (list_all (λ n. is_over (l n)) (named e)) was
+
+  begins_by : (b : Bool) → meant_by B other place scope d l j t b ≡ ready → meant_by A called place scope d l j t b ≡ begun_behind (parents d.tasks t)
+  begins_by false was = absurd (cc was)
+  begins_by true was = begins_meant (awaited d.tasks t) was
+
+  begins_as : (z : Made) → z ≡ called (codes "tasks.") (task_place place j t) (tags_before l (parents d.tasks t) ++ scope) t.call → standing B other place scope d l j t ≡ ready →
+      standing A called place scope d l j t ≡ exists z (covered t.call.continue_on z.own.node.phase) (tags_before l (parents d.tasks t))
+  begins_as z is was =
+      begins_by (is_meant d t) was ∙ (λ k. exists (sym is k) (covered t.call.continue_on (sym is k).own.node.phase) (tags_before l (parents d.tasks t)))
 
 -- ---- its place among what stands below the DAG
 
@@ -129,26 +145,31 @@ module _ (m : Manifest) (A B : Answers) (changed : Sels) (same : SameBut A B cha
   abbrev called_then : Caller
   called_then = calls m B g left
 
+  -- the tags that a task sees of those that it waits for
+  abbrev pub tags_seen : Place → Scope → Dag → Task → Scope
+  tags_seen place scope d t = tags_before (look (standings B called_then place scope d)) (parents d.tasks t)
+
   pub dag_begins : (place : Place) (scope : Scope) (declared : List OutputDecl) (d : Dag) → HasRank d.tasks → (j : ℕ) (rest : Sels) (old z : Made) (parts : Parts) (t : Task) (at : Path) → changed ≡ place.sels ++ task_sel j ∷ rest →
-      old ≡ dag_made B called_then place scope declared d → slice_get d.tasks j ≡ Some t → awaited d.tasks t ≡ None → at.sels ≡ (task_place place j t).sels →
-      (not d.fail_fast || A.begun (task_place place j t).sels) ≡ true → z ≡ called_now (codes "tasks.") (task_place place j t) scope t.call → IsUnseen d t z →
+      old ≡ dag_made B called_then place scope declared d → slice_get d.tasks j ≡ Some t → at.sels ≡ (task_place place j t).sels →
+      (not d.fail_fast || A.begun (task_place place j t).sels) ≡ true → z ≡ called_now (codes "tasks.") (task_place place j t) (tags_seen place scope d t ++ scope) t.call → IsUnseen d t z →
       begun old.parts at z ≡ Some parts → all_finished (row_in parts) ≡ false → dag_made A called_now place scope declared d ≡ record old { parts = parts }
-  dag_begins place scope declared d ranked j rest old z parts t at way is task alone here begins new unseen there goes_on =
+  dag_begins place scope declared d ranked j rest old z parts t at way is task here begins new unseen there goes_on =
       let ss = standings B called_then place scope d in
       let found = begun_at (is_doomed d ss) place j z at here 0 ss parts (sym (ap (λ (b : Made). begun b.parts at z) is) ∙ there) in
       let number : found.p ≡ j = omega (arith, found.here) in
       let stands : stood ss j ≡ ready = ap (stood ss) (sym number) ∙ found.stands in
-      let x : Standing = exists z (covered t.call.continue_on z.own.node.phase) [] in
+      let seen : Scope = tags_seen place scope d t in
+      let x : Standing = exists z (covered t.call.continue_on z.own.node.phase) seen in
       let us : Standings = put ss j x in
       let below : tasks_below (is_doomed d ss) place 0 us ≡ parts =
-      ap (λ (p : ℕ). tasks_below (is_doomed d ss) place 0 (put ss p x)) (sym number) ∙ found.below (covered t.call.continue_on z.own.node.phase) [] in
+      ap (λ (p : ℕ). tasks_below (is_doomed d ss) place 0 (put ss p x)) (sym number) ∙ found.below (covered t.call.continue_on z.own.node.phase) seen in
       let over : is_over (stood ss j) ≡ false = ap is_over stands in
       let fallen : has_failed (stood ss j) ≡ false = ap has_failed stands in
-      let doomed : is_doomed d ss ≡ is_doomed d us = still_doomed d ss j x fallen (seen_not_failed d t z [] unseen) in
+      let doomed : is_doomed d ss ≡ is_doomed d us = still_doomed d ss j x fallen (seen_not_failed d t z seen unseen) in
       let now : standing A called_now place scope d (look ss) j t ≡ x =
-      begins_as A B called_now called_then place scope d (look ss) j t alone z new (sym (stood_is B called_then place scope d settle ranked j t task) ∙ stands) begins in
+      begins_as A B called_now called_then place scope d (look ss) j t begins z new (sym (stood_is B called_then place scope d settle ranked j t task) ∙ stands) in
       let phase : dag_phase d us ≡ Running = unfinished_runs d us (is_doomed d ss) place (ap (λ (p : Parts). all_finished (row_in p)) below ∙ goes_on) in
-      ap (dag_by place scope declared d) (standings_by_either m A B changed same g left settle place scope d ranked j rest way t task x now over (seen_not_over d t z (covered t.call.continue_on z.own.node.phase) [] unseen))
+      ap (dag_by place scope declared d) (standings_by_either m A B changed same g left settle place scope d ranked j rest way t task x now over (seen_not_over d t z (covered t.call.continue_on z.own.node.phase) seen unseen))
       ∙ (λ k. over_parts place declared (phase k) (dag_tags us ++ scope) (tasks_below (sym doomed k) place 0 us))
       ∙ ap (λ (p : Parts). over_parts place declared Running (dag_tags us ++ scope) p) below
       ∙ ap (λ (p : Phase). over_parts place declared p (dag_tags ss ++ scope) parts) (sym (ready_runs d ss j stands found.spared))
@@ -156,10 +177,10 @@ module _ (m : Manifest) (A B : Answers) (changed : Sels) (same : SameBut A B cha
 
   -- the same of the state that stands over one call more
   pub dag_begins_as : (place : Place) (scope : Scope) (declared : List OutputDecl) (d : Dag) → HasRank d.tasks → (j : ℕ) (rest : Sels) (old z state : Made) (t : Task) (at : Path) → changed ≡ place.sels ++ task_sel j ∷ rest →
-      old ≡ dag_made B called_then place scope declared d → slice_get d.tasks j ≡ Some t → awaited d.tasks t ≡ None → at.sels ≡ (task_place place j t).sels →
-      (not d.fail_fast || A.begun (task_place place j t).sels) ≡ true → z ≡ called_now (codes "tasks.") (task_place place j t) scope t.call → IsUnseen d t z →
+      old ≡ dag_made B called_then place scope declared d → slice_get d.tasks j ≡ Some t → at.sels ≡ (task_place place j t).sels →
+      (not d.fail_fast || A.begun (task_place place j t).sels) ≡ true → z ≡ called_now (codes "tasks.") (task_place place j t) (tags_seen place scope d t ++ scope) t.call → IsUnseen d t z →
       option_map (λ (parts : Parts). record old { parts = parts }) (begun old.parts at z) ≡ Some state → all_finished (row_in state.parts) ≡ false → dag_made A called_now place scope declared d ≡ state
-  dag_begins_as place scope declared d ranked j rest old z state t at way is task alone here begins new unseen found goes_on =
+  dag_begins_as place scope declared d ranked j rest old z state t at way is task here begins new unseen found goes_on =
       let (parts, there, same_state) = mapped (λ (p : Parts). record old { parts = p }) (begun old.parts at z) state found in
-      dag_begins place scope declared d ranked j rest old z parts t at way is task alone here begins new unseen there (ap (λ (b : Made). all_finished (row_in b.parts)) same_state ∙ goes_on)
+      dag_begins place scope declared d ranked j rest old z parts t at way is task here begins new unseen there (ap (λ (b : Made). all_finished (row_in b.parts)) same_state ∙ goes_on)
       ∙ same_state

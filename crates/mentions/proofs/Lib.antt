@@ -3,3 +3,4 @@ pub mod Neither
 pub mod Said
 pub mod Calls
 pub mod GroupTags
+pub mod TaskTags

@@ -2,6 +2,7 @@ pub mod Mentions
 pub mod Unasked
 pub use Rattle.meaning.specs.Answers
 pub use Rattle.meaning.specs.Calls
+pub use Rattle.meaning.specs.Dags
 pub use Rattle.meaning.specs.Outputs
 pub use Rattle.meaning.specs.Steps
 pub use Rattle.meaning.specs.declared.lines.Place

@@ -2,13 +2,15 @@
 use Rattle.std.specs.Prelude.{◌≡◌, ℕ, List, ◌++◌, false, nat_eq, codes}
 use Rattle.std.specs.List.{starts_with}
 use Rattle.wf_manifest.specs.declared.calls.Call.{Call}
+use Rattle.wf_manifest.specs.declared.calls.Dag.{Dag}
 use Rattle.wf_manifest.specs.declared.templates.OutputDecl.{OutputDecl}
 use Rattle.wf_manifest.specs.declared.manifest.Manifest.{Manifest}
 use Rattle.scopes.specs.Substitution.{Scope, value_in}
 use Rattle.meaning.specs.declared.lines.Place.{Place}
 use Rattle.meaning.specs.Answers.{Answers}
 use Rattle.meaning.specs.Outputs.{computed}
-use Rattle.meaning.specs.Steps.{Member, members, group_tags}
+use Rattle.meaning.specs.Steps.{Caller, Member, members, group_tags}
+use Rattle.meaning.specs.Dags.{Names, look, tags_before, standings}
 use Rattle.meaning.specs.Calls.{calls}
 use Rattle.mentions.specs.Mentions.{call_asks, group_asks, outputs_ask}
 
@@ -43,3 +45,9 @@ UnaskedInOutputs =
 abbrev pub GroupTagsBeginSo : Type 0
 GroupTagsBeginSo =
     (ms : List Member) (scope : Scope) → HasOtherValuesOf (codes "steps.") (group_tags ms ++ scope) scope
+
+-- the tags of the ancestors of a task, wherever the tasks of its DAG stand, which all begin with `tasks.`
+abbrev pub TaskTagsBeginSo : Type 0
+TaskTagsBeginSo =
+    (A : Answers) (called : Caller) (place : Place) (scope : Scope) (d : Dag) (ns : Names) (around : Scope) →
+    HasOtherValuesOf (codes "tasks.") (tags_before (look (standings A called place scope d)) ns ++ around) around

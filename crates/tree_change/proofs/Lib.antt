@@ -13,3 +13,4 @@ mod Sharing
 mod Tagging
 mod Tasks
 mod Turns
+mod Unseeing

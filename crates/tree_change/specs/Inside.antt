@@ -2,3 +2,4 @@
 pub mod Groups
 pub mod OneItem
 pub mod Resuming
+pub mod Unseeing

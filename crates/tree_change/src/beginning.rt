@@ -1,12 +1,13 @@
-//! A task of a DAG that waits for no other and begins now: where no other task sees what it makes, all else is shared.
+//! A task of a DAG that begins now and sees no tag of another: where no other task sees what it makes, all else is shared.
 
-ghost use Rattle.std.specs.Prelude.{◌≡◌, ◌+◌, ◌*◌, ◌<◌, ◌++◌, ◌∷◌, List as Seq, None, IsTrue, codes};
+ghost use Rattle.std.specs.Prelude.{◌≡◌, ◌+◌, ◌*◌, ◌<◌, ◌++◌, ◌∷◌, List as Seq, IsTrue, IfOk, codes};
 ghost use Rattle.tree_types.specs.declared.path.Sel.TheVariants as sels;
 ghost use Rattle.wf_manifest.specs.declared.templates.OutputDecl.{OutputDecl};
 ghost use Rattle.meaning.specs.Dags as dags;
 ghost use Rattle.tree_walk.specs.Index.{IsReady};
 ghost use Rattle.tree_walk.specs.Walkable.{IsWalkableDag};
 ghost use Rattle.tree_change.specs.Changes.{IfGiven};
+ghost use Rattle.tree_change.specs.Inside.Unseeing.{SeesNone};
 ghost use Rattle.tree_change.specs.Inside.Resuming.{Resumes, calls_now, calls_before};
 
 use crate::again::Again;
@@ -15,6 +16,7 @@ use base_types::{Memory, TryCopy};
 use call_nodes::task_place;
 use dag_stays::{call_of_task, is_unseen};
 use meaning::Place;
+use mentions::call_asks_for;
 use recorded::Recorded;
 use scopes::Scope;
 use tree_state::{Room, State, TreeRefused};
@@ -22,11 +24,15 @@ use tree_types::{Path, Sel};
 use tree_walk::{Listed, begins};
 use wf_manifest::{Dag, Task};
 
-// Whether a task names no other that it waits for.
-fn is_alone(dag: &Dag, task: &Task) -> bool
-    ensures { IsTrue result → dags.awaited dag.now.tasks task.now ≡ None }
+// Whether a task sees no tag of those that it waits for: it names none, or no text of its call asks for such a tag.
+fn sees_none(dag: &Dag, task: &Task) -> Result<bool, Memory>
+    ensures { IfOk result (λ sees. IsTrue sees → SeesNone dag.now.tasks task.now) }
 {
-    task.depends.is_none() && task.dependencies.is_none()
+    if task.depends.is_none() && task.dependencies.is_none() {
+        return Ok(true);
+    }
+    let name = &task.call.name;
+    Ok(!call_asks_for(name.allocator(), "tasks.", &task.call)?)
 }
 
 impl<R: Recorded> Again<'_, R> {
@@ -54,7 +60,7 @@ impl<R: Recorded> Again<'_, R> {
         }
     }
 
-    // A DAG whose task `j` begins now. None where it stood before or waits for others, or where others may see it.
+    // A DAG whose task `j` begins now. None where it stood before or sees others, or where others may see it.
     pub(crate) fn begun_alone(
         &self,
         place: &Place,
@@ -75,7 +81,11 @@ impl<R: Recorded> Again<'_, R> {
         let Some(task) = item_at(&dag.tasks, j as usize) else {
             return Ok(None);
         };
-        if !is_alone(dag, task) || call_of_task(old, j).is_some() {
+        if call_of_task(old, j).is_some() {
+            return Ok(None);
+        }
+        let sees_none = sees_none(dag, task)?;
+        if !sees_none {
             return Ok(None);
         }
         let at = task_place(place, j, task)?;
