@@ -2,6 +2,8 @@ pub mod Names
 pub mod Parents
 pub mod Positions
 mod Marking
+mod Gathering
+pub mod Waiting
 mod Keeping
 pub mod Spreading
 pub mod Ancestry

@@ -19,7 +19,7 @@ use Rattle.task_order.proofs.Among.{Among, among_from, among_given, given_from, 
 use Rattle.meaning.specs.Dags.{Names, parents, is_last, is_meant, target_names, target_names_by}
 use Rattle.dag_plan.specs.declared.plan.DagPlan.{DagPlan}
 use Rattle.dag_plan.specs.Order.{first, IsOrder}
-use Rattle.dag_plan.specs.Plans.{AreAt, IsPlan}
+use Rattle.dag_plan.specs.Plans.{AreAt, rows_with, IsPlan}
 use Rattle.dag_plan.specs.Inside.Marks.{is_marked, marked, unmarked, target_places, AreFound}
 use Rattle.dag_plan.proofs.Parents.{same_parents, same_waits}
 use Rattle.dag_plan.proofs.Positions.{place_first, table_is, all_at, own_place, at_first}
@@ -285,14 +285,17 @@ module _ (d : Dag) (differ : all_differ (task_names d) ≡ true) (there : tasks_
 
   pub planned :
       (plan : DagPlan) → plan.rows ≡ rows → orders.IsOrder rows plan.order → AllPairs ◌≢◌ plan.order → plan.targets ≡ goals →
-      AreFound rows goals plan.meant → IsPlan d plan
-  planned plan rows_is o once targets_is f = record {
+      AreFound rows goals plan.meant → length plan.behind ≡ length rows →
+      ((p : ℕ) → p < length rows → get_or plan.behind p [] ≡ rows_with p 0 rows) → IsPlan d plan
+  planned plan rows_is o once targets_is f long each = record {
     ranked = h;
     own = own;
     order = is_order plan.order o once;
     meant = meant_are plan.meant f;
     long = ap (λ (rs : List (List ℕ)). length rs) rows_is ∙ rows_are_long;
     rows = λ p t at. subst (λ (rs : List (List ℕ)). AreAt ts (waited t) (get_or rs p [])) (sym rows_is) (are_rows p t at);
+    long_behind = long ∙ rows_are_long;
+    behind = λ p low. each p (omega (arith, low, rows_are_long)) ∙ ap (rows_with p 0) (sym rows_is);
     targets = subst (AreAt ts (target_names d)) (sym targets_is) targets_at;
   }
 

@@ -1,2 +1,3 @@
 -- What speaks only of private code.
+pub mod Behind
 pub mod Marks

@@ -1,6 +1,7 @@
 //! How the tasks of a DAG are gone through: in which order, which of them exist, and which waits for which.
 #![tactic(auto)]
 
+mod behind;
 mod marks;
 mod once;
 mod order;

@@ -6,6 +6,7 @@ ghost use Rattle.wf_manifest.specs.declared.templates.Body.TheVariants as body;
 ghost use Rattle.wf_manifest.specs.Valid.{task_names, tasks_are_there, HasRank};
 ghost use Rattle.dag_plan.specs.Plans.{IsPlan};
 
+use crate::behind::behind_of;
 use crate::order::places_in_order;
 use crate::spread::marks_found;
 use crate::targets::target_places;
@@ -15,13 +16,14 @@ use task_order::{rows_of, table_of};
 use wf_manifest::Dag;
 
 /// How the tasks of a DAG are gone through: their positions in an order in which each stands behind those that it waits for,
-/// whether each is a target or an ancestor of one, the positions of those that each waits for, and those of the targets.
-/// None of it changes while the tasks run.
+/// whether each is a target or an ancestor of one, the positions of those that each waits for, those of the tasks that wait
+/// for each, in their order, and those of the targets. None of it changes while the tasks run.
 #[derive(Debug, Drop)]
 pub struct DagPlan {
     pub order: List<usize>,
     pub meant: List<bool>,
     pub rows: List<List<usize>>,
+    pub behind: List<List<usize>>,
     pub targets: List<usize>,
 }
 
@@ -40,10 +42,12 @@ impl DagPlan {
         let order = places_in_order(alloc, rows.as_slice())?;
         let targets = target_places(alloc, &table, rows.as_slice(), dag.targets.as_slice())?;
         let meant = marks_found(alloc, rows.as_slice(), order.as_slice(), targets.as_slice())?;
+        let behind = behind_of(alloc, rows.as_slice())?;
         Ok(DagPlan {
             order,
             meant: List::from_vec(meant),
             rows,
+            behind,
             targets,
         })
     }
