@@ -6,6 +6,7 @@ mod Suffice
 mod Rows
 mod Judged
 pub mod Places
+pub mod VerdictsAlike
 pub mod Seeing
 pub mod Ordered
 pub mod StepSeen

@@ -12,7 +12,7 @@ use Rattle.meaning.specs.Dags.{Names}
 use Rattle.dag_plan.specs.Order.{first}
 use Rattle.dag_plan.specs.Plans.{AreAt}
 use Rattle.dag_template.specs.declared.stands.Stand.{Stand}
-use Rattle.dag_template.specs.Stands.{waits, stand_of, covers, covers_of, covers_at, is_met, are_met, are_met_at, verdict_by, verdict_named, verdict_waiting, verdict}
+use Rattle.dag_template.specs.Stands.{waits, stand_of, covers, covers_of, covers_at, is_met, are_met, are_met_at, Sight, verdict_by, verdict_named, verdict_waiting, verdict}
 
 -- the first task passes or the position is one of a later task
 abbrev FirstOf : Bool → ℕ → Option ℕ → Type 0
@@ -97,24 +97,24 @@ covers_got [] p t low = absurd (omega (arith, low))
 covers_got (u ∷ us) zero t low = refl
 covers_got (u ∷ us) (suc p) t low = covers_got us p t (omega (arith, low))
 
--- ---- by what a task waits for
+-- ---- by how those stand that a task waits for
 
-module _ (ts : List Task) (ss : List Stand) (t : Task) (ps : List ℕ) (long : length ts ≡ length ss) (at : AreAt ts (waited t) ps) where
+module _ (ts : List Task) (of : Sight) (t : Task) (ps : List ℕ) (found : List Stand) (at : AreAt ts (waited t) ps) (is : map of (waited t) ≡ found) where
   waits_are : (o : Option Expression) (dependencies : Option Names) → t.depends ≡ o → t.dependencies ≡ dependencies → AreAt ts (waited_in o dependencies) ps
   waits_are o dependencies e f = subst (λ (x : Option Expression). AreAt ts (waited_in x dependencies) ps) e (subst (λ (y : Option Names). AreAt ts (waited_in t.depends y) ps) f at)
 
-  pub names_stand : (e : Expression) → t.depends ≡ Some e → map (stand_of ts ss) (names_of e) ≡ map (λ p. get_or ss p waits) ps
-  names_stand e is = all_looked ts ss (names_of e) ps long (waits_are (Some e) t.dependencies is refl)
+  found_are : (o : Option Expression) (dependencies : Option Names) → t.depends ≡ o → t.dependencies ≡ dependencies → map of (waited_in o dependencies) ≡ found
+  found_are o dependencies e f = subst (λ (x : Option Expression). map of (waited_in x dependencies) ≡ found) e (subst (λ (y : Option Names). map of (waited_in t.depends y) ≡ found) f is)
 
-  pub verdict_depends : (e : Expression) → t.depends ≡ Some e → verdict_named (stand_of ts ss) e ≡ verdict ts (stand_of ts ss) t
-  verdict_depends e is = ap (λ (x : Option Expression). verdict_waiting ts (stand_of ts ss) x t.dependencies) (sym is)
+  pub names_found : (e : Expression) → t.depends ≡ Some e → map of (names_of e) ≡ found
+  names_found e says = found_are (Some e) t.dependencies says refl
+
+  pub verdict_depends : (e : Expression) → t.depends ≡ Some e → verdict_named of e ≡ verdict ts of t
+  verdict_depends e says = ap (λ (x : Option Expression). verdict_waiting ts of x t.dependencies) (sym says)
 
   pub verdict_dependencies :
-      (ns : Names) (found : List Stand) → t.depends ≡ None → t.dependencies ≡ Some ns → found ≡ map (λ p. get_or ss p waits) ps →
-      verdict_by found (are_met_at ts ps found) ≡ verdict ts (stand_of ts ss) t
-  verdict_dependencies ns found none is found_is =
-      let listed = waits_are None (Some ns) none is in
-      let all : found ≡ map (stand_of ts ss) ns = found_is ∙ sym (all_looked ts ss ns ps long listed) in
-      ap (verdict_by found) (met_looked ts ns ps found listed)
-      ∙ ap (λ (xs : List Stand). verdict_by xs (are_met ts ns xs)) all
-      ∙ (λ i. verdict_waiting ts (stand_of ts ss) (let back : None ≡ t.depends = sym none in back i) (let back : Some ns ≡ t.dependencies = sym is in back i))
+      (ns : Names) → t.depends ≡ None → t.dependencies ≡ Some ns → verdict_by found (are_met_at ts ps found) ≡ verdict ts of t
+  verdict_dependencies ns none says =
+      ap (verdict_by found) (met_looked ts ns ps found (waits_are None (Some ns) none says))
+      ∙ ap (λ (xs : List Stand). verdict_by xs (are_met ts ns xs)) (sym (found_are None (Some ns) none says))
+      ∙ (λ i. verdict_waiting ts of (let back : None ≡ t.depends = sym none in back i) (let back : Some ns ≡ t.dependencies = sym says in back i))

@@ -100,6 +100,27 @@ fn judge_dependencies(tasks: &[Task], places: &[usize], found: &[Stand]) -> Verd
     }
 }
 
+/// What becomes of a task where those that it waits for stand so, in the order in which it names them. `places` are their
+/// positions.
+pub fn judge_found(
+    alloc: Global,
+    tasks: &[Task],
+    found: &[Stand],
+    task: &Task,
+    places: &[usize],
+) -> Result<Verdict, Memory>
+    requires each { length places.now ≡ length found.now }
+    requires places { AreAt tasks.now (waited task.now) places.now }
+    ensures { (of : spec.Sight) → map of (waited task.now) ≡ found.now →
+        IfOk result (λ verdict. verdict ≡ spec.verdict tasks.now of task.now) }
+{
+    match (&task.depends, &task.dependencies) {
+        (Some(depends), _) => judge_depends(alloc, found, depends),
+        (None, Some(_)) => Ok(judge_dependencies(tasks, places, found)),
+        (None, None) => Ok(Verdict::Holds),
+    }
+}
+
 /// What becomes of a task, by how the tasks stand. `places` are the positions of those that it waits for.
 pub fn judge(
     alloc: Global,
@@ -114,9 +135,5 @@ pub fn judge(
         verdict ≡ spec.verdict tasks.now (spec.stand_of tasks.now stands.now) task.now) }
 {
     let found = stands_at(alloc, stands, places)?;
-    match (&task.depends, &task.dependencies) {
-        (Some(depends), _) => judge_depends(alloc, found.as_slice(), depends),
-        (None, Some(_)) => Ok(judge_dependencies(tasks, places, found.as_slice())),
-        (None, None) => Ok(Verdict::Holds),
-    }
+    judge_found(alloc, tasks, found.as_slice(), task, places)
 }
