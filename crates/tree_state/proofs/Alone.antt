@@ -70,7 +70,7 @@ alone (k ∷ ks) i is =
     line_call k.line rest i ∙ from_state k.state ks i own (λ j e. alone ks j e) ∙ first_made k ks i
 
 -- what a list of kids lends at a position
-lent : (ks : List Kid) (i : ℕ) (r : Option (Bor Kid)) → IsItemAt ks i r → option_copied r ≡ slice_get ks i
+pub lent : (ks : List Kid) (i : ℕ) (r : Option (Bor Kid)) → IsItemAt ks i r → option_copied r ≡ slice_get ks i
 lent ks i None (_, _, _, past, _) = sym (slice_get_past ks i past)
 lent ks i (Some k) (_, here, _, within, _) = sym (slice_get_read ks (length ks) i k.now refl within.0 here)
 

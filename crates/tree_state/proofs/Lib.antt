@@ -11,3 +11,4 @@ pub mod Readings
 mod Chunks
 mod Listings
 mod Begins
+mod Inserts

@@ -1,4 +1,5 @@
 -- What speaks only of private code.
+pub mod Among
 pub mod Begun
 pub mod Chunks
 pub mod Kids

@@ -6,6 +6,7 @@ pub mod Finding
 pub mod Inside
 pub mod MadeCode
 pub mod Replacing
+pub mod Inserting
 pub mod Making
 pub mod Telling
 pub use Rattle.meaning.specs.Lines

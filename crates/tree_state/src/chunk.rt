@@ -24,7 +24,7 @@ use tree_types::{Node, Path, Phase, Want};
 
 // How many kids a chunk has: as many as lie in less than the thousand and some bytes above which the C library takes a request
 // for a large one, and first merges all that was freed.
-const ROOM: usize = 31;
+pub(crate) const ROOM: usize = 31;
 
 /// Some of what stands below a node, in tree order, which versions of the node share.
 #[cycle(state)]

@@ -110,7 +110,7 @@ impl Filled {
     }
 
     // The last chunk goes to the others, and an empty one comes in its place.
-    fn seal(&mut self) -> Result<(), Memory>
+    pub(crate) fn seal(&mut self) -> Result<(), Memory>
         ensures { self.new ≡ self.old }
     {
         let alloc = *self.full.allocator();
