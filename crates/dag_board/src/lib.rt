@@ -9,3 +9,4 @@ mod turns;
 mod verdict;
 
 pub use board::Board;
+pub use turns::stand_existing;

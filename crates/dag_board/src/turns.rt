@@ -23,8 +23,8 @@ use tree_state::{Below, Shared, State};
 use tree_types::{Kind, Note, Phase, Wants};
 use wf_manifest::Dag;
 
-// What others see of a task that exists.
-fn stand_existing(branch: Phase, state: &State) -> Stand
+/// What others see of a task that exists with this branch phase, by what it made.
+pub fn stand_existing(branch: Phase, state: &State) -> Stand
     ensures { result ≡ sight (exists state.now branch []) }
 {
     let phase = state.phase();

@@ -30,7 +30,8 @@ use Rattle.dag_board.specs.Boards.{stood}
 use Rattle.dag_board.proofs.Lookups.{stood_is}
 use Rattle.tree_state.specs.Beginning.{begun}
 use Rattle.dag_stays.specs.Unseen.{IsUnseen}
-use Rattle.dag_stays.proofs.RunsOn.{never, put, still_doomed, unfinished_runs, over_parts, seen_not_over, seen_not_failed, standings_by_either}
+use Rattle.dag_stays.specs.Behind.{put}
+use Rattle.dag_stays.proofs.RunsOn.{never, still_doomed, unfinished_runs, over_parts, seen_not_over, seen_not_failed, standings_by_either}
 
 -- ---- the task itself
 
@@ -132,7 +133,7 @@ any_ready (s ∷ ss) (suc p) is = ap (λ (b : Bool). is_ready s.1 || b) (any_rea
     always true = refl
     always false = refl
 
-ready_runs : (d : Dag) (ss : Standings) (p : ℕ) → stood ss p ≡ ready → is_doomed d ss ≡ false → dag_phase d ss ≡ Running
+pub ready_runs : (d : Dag) (ss : Standings) (p : ℕ) → stood ss p ≡ ready → is_doomed d ss ≡ false → dag_phase d ss ≡ Running
 ready_runs d ss p is spared =
     let on : may_go_on d ss ≡ true = ap (λ (b : Bool). not b && list_any (λ s. is_ready s.1) ss) spared ∙ any_ready ss p is in
     ap (λ (b : Bool). cond (list_all (λ s. is_at_rest s.1) ss && not b) (worst_of (map branch_of (targets d ss))) Running) on

@@ -17,17 +17,10 @@ use Rattle.meaning.specs.Lines.{numbered, Made, row_in}
 use Rattle.meaning.specs.Steps.{Caller}
 use Rattle.meaning.specs.Dags.{awaited, is_meant, Standing, waiting, ready, exists, is_over, result_of, Look, look, Standings, task_place, tags_before, free_by, decided_by, waits_by, meant, meant_by, standing, with_standing, rounds, standings, task_then, tasks_below}
 use Rattle.dag_board.specs.Boards.{stood, made_of}
+use Rattle.dag_stays.specs.Over.{IsOwn, AreOwn}
 use Rattle.dag_stays.specs.ByTask.{task_is, is_of_task, task_if, one_if, by_task}
 
 -- ---- a task's node stands at its selector
-
-abbrev pub IsOwn : Sels → ℕ → Standing → Type 0
-IsOwn at i (exists m branch seen) = m.own.node.path.sels ≡ at ++ task_sel i ∷ []
-IsOwn at i _ = Unit {0}
-
-abbrev pub AreOwn : Sels → ℕ → Standings → Type 0
-AreOwn at i [] = Unit {0}
-AreOwn at i (s ∷ ss) = IsOwn at i s.1 × AreOwn at (suc i) ss
 
 -- calls stand at their places
 abbrev pub StandsHere : Caller → Type 0
@@ -55,7 +48,7 @@ module _ (A : Answers) (called : Caller) (here : StandsHere called) (place : Pla
     own_by false = tt
     own_by true = own_meant (awaited d.tasks t)
 
-    own_standing : IsOwn place.sels i (standing A called place scope d at i t)
+    pub own_standing : IsOwn place.sels i (standing A called place scope d at i t)
     own_standing = own_by (is_meant d t)
 
   own_numbered : (at : Look) (i : ℕ) (ts : List Task) → AreOwn place.sels i (numbered (with_standing A called place scope d at) i ts)
@@ -71,7 +64,7 @@ module _ (A : Answers) (called : Caller) (here : StandsHere called) (place : Pla
 
 -- ---- found by position
 
-last_sel : (at : Sels) (s : Sel) → slice_get (at ++ s ∷ []) (length at) ≡ Some s
+pub last_sel : (at : Sels) (s : Sel) → slice_get (at ++ s ∷ []) (length at) ≡ Some s
 last_sel [] s = refl
 last_sel (a ∷ at) s = last_sel at s
 

@@ -49,6 +49,12 @@ module _ {X : Type 0} (f : X → Bool) where
   pub none_more : (xs : List X) (i : ℕ) (x : X) → slice_get xs i ≡ Some x → list_any f (take i xs) ≡ false → f x ≡ false → list_any f (take (i + 1) xs) ≡ false
   none_more xs i x there none off = none_item xs i x (is_low xs i x there) (is_here xs i x there) none off
 
+-- the task at a position that there is
+pub task_at : (ts : List Task) (k : ℕ) → k < length ts → (u : Task) × (slice_get ts k ≡ Some u)
+task_at [] k lt = absurd (omega (arith, lt))
+task_at (t ∷ ts) zero lt = (t, refl)
+task_at (t ∷ ts) (suc k) lt = task_at ts k (omega (arith, lt))
+
 -- ---- the tasks that a task waits for, each once or as often as its expression names it
 
 module _ (q : List ℕ → Bool) (ts : List Task) where

@@ -36,13 +36,15 @@ use Rattle.dag_board.proofs.Lookups.{rows_are, stood_is}
 use Rattle.tree_state.specs.Replacing.{call_at, replaced, with_call}
 use Rattle.dag_stays.specs.ByTask.{is_of_task}
 use Rattle.dag_stays.specs.Unseen.{IsUnseen}
+use Rattle.dag_stays.specs.Behind.{put}
 use Rattle.dag_stays.proofs.Placed.{ended, call_is_here}
-use Rattle.dag_stays.proofs.Found.{IsOwn, AreOwn, own_standings, is_sought}
+use Rattle.dag_stays.specs.Over.{IsOwn, AreOwn}
+use Rattle.dag_stays.proofs.Found.{own_standings, is_sought}
 
 -- ---- how two tasks look
 
 -- the same, or neither is over
-abbrev Near : Standing → Standing → Type 0
+abbrev pub Near : Standing → Standing → Type 0
 Near s u = (s ≡ u) ⊎ ((is_over s ≡ false) × (is_over u ≡ false))
 
 -- the same, or neither has failed
@@ -57,12 +59,12 @@ never false = refl
 abbrev all_over : Look → Names → Bool
 all_over l ns = list_all (λ n. is_over (l n)) ns
 
-abbrev AgreeOrWait : Look → Look → Names → Type 0
+abbrev pub AgreeOrWait : Look → Look → Names → Type 0
 AgreeOrWait at by ns = Agree at by ns ⊎ ((all_over at ns ≡ false) × (all_over by ns ≡ false))
 
 -- looks that differ in tasks alone that are not over
 module _ (at by : Look) (near : (n : List ℕ) → Near (at n) (by n)) where
-  agree_or_wait : (ns : Names) → AgreeOrWait at by ns
+  pub agree_or_wait : (ns : Names) → AgreeOrWait at by ns
   agree_or_wait [] = inl tt
   agree_or_wait (n ∷ ns) = both (near n) (agree_or_wait ns)
     where
@@ -96,7 +98,7 @@ module _ (at by : Look) (A : Answers) (called : Caller) (place : Place) (scope :
   by_alike false alike = refl
   by_alike true alike = meant_alike (awaited d.tasks t) alike
 
-  standing_alike : AgreeOrWait at by (parents d.tasks t) → standing A called place scope d at i t ≡ standing A called place scope d by i t
+  pub standing_alike : AgreeOrWait at by (parents d.tasks t) → standing A called place scope d at i t ≡ standing A called place scope d by i t
   standing_alike alike = by_alike (is_meant d t) alike
 
 -- no more targets have failed by the one look than by the other
@@ -126,13 +128,8 @@ module _ (at by : Look) (close : (n : List ℕ) → Close (at n) (by n)) where
 
 -- ---- one task stands otherwise
 
-abbrev pub put : Standings → ℕ → Standing → Standings
-put [] p x = []
-put (s ∷ ss) zero x = (s.0, x) ∷ ss
-put (s ∷ ss) (suc p) x = s ∷ put ss p x
-
--- so each looks related
-put_looks : (R : Standing → Standing → Type 0) → ((s : Standing) → R s s) → (ss : Standings) (p : ℕ) (x : Standing) → R (stood ss p) x → (n : List ℕ) → R (look ss n) (look (put ss p x) n)
+-- each looks related
+pub put_looks : (R : Standing → Standing → Type 0) → ((s : Standing) → R s s) → (ss : Standings) (p : ℕ) (x : Standing) → R (stood ss p) x → (n : List ℕ) → R (look ss n) (look (put ss p x) n)
 put_looks R self [] p x related n = self waiting
 put_looks R self (s ∷ ss) zero x related n = named_so (bytes_eq s.0.call.name n)
   where
@@ -160,7 +157,7 @@ not_at_rest (s ∷ ss) zero run = ap (λ (b : Bool). b && list_all (λ u. is_at_
 not_at_rest (s ∷ ss) (suc p) run = ap (λ (b : Bool). is_at_rest s.1 && b) (not_at_rest ss p run) ∙ never (is_at_rest s.1)
 
 -- a DAG of which a task runs
-runs_with : (d : Dag) (ss : Standings) (p : ℕ) → is_at_rest (stood ss p) ≡ false → dag_phase d ss ≡ Running
+pub runs_with : (d : Dag) (ss : Standings) (p : ℕ) → is_at_rest (stood ss p) ≡ false → dag_phase d ss ≡ Running
 runs_with d ss p run = ap (λ (b : Bool). cond (b && not (may_go_on d ss)) (worst_of (map branch_of (targets d ss))) Running) (not_at_rest ss p run)
 
 doomed_alike : (d : Dag) (ss : Standings) (p : ℕ) (x : Standing) → has_failed (stood ss p) ≡ false → has_failed x ≡ false → is_doomed d ss ≡ is_doomed d (put ss p x)
@@ -217,7 +214,7 @@ module _ (f h : ℕ → Task → Standing) (sees : Task → Bool) where
       let first : f i t ≡ h i t = same i t parts.0 (λ e. omega (arith, e)) in
       λ j. (t, first j) ∷ put_rows (suc i) p ts x parts.1 (λ k u off apart. same k u off (λ e. apart (omega (arith, e)))) (λ u found. here u found ∙ ap (λ (n : ℕ). h n u) (omega arith)) j
 
-tasks_kept : (f : ℕ → Task → Standing) (i : ℕ) (ts : List Task) → map (λ (s : Task × Standing). s.0) (numbered (λ k t. (t, f k t)) i ts) ≡ ts
+pub tasks_kept : (f : ℕ → Task → Standing) (i : ℕ) (ts : List Task) → map (λ (s : Task × Standing). s.0) (numbered (λ k t. (t, f k t)) i ts) ≡ ts
 tasks_kept f i [] = refl
 tasks_kept f i (t ∷ ts) = ap (λ (us : List Task). t ∷ us) (tasks_kept f (suc i) ts)
 
@@ -271,20 +268,20 @@ module _ (A B : Answers) (called other : Caller) (place : Place) (scope : Scope)
   again_by false is = absurd (cc is)
   again_by true is = again_meant (awaited d.tasks t) is
 
-  stands_again : standing B other place scope d at j t ≡ was → standing A called place scope d at j t ≡ is_now
+  pub stands_again : standing B other place scope d at j t ≡ was → standing A called place scope d at j t ≡ is_now
   stands_again is = again_by (is_meant d t) is
 
 -- ---- its call among those below the DAG
 
 -- the call at a position is the one of the task that stands at position p, and once the task makes something else only that call is another
-record IsAt (under : Standings → Parts) (at_dag : Sels) (i at j : ℕ) (ss : Standings) (one z : Made) : Type 0 where
-  p : ℕ
-  own : one.own.node.path.sels ≡ at_dag ++ task_sel j ∷ []
-  here : i + p ≡ j
-  branch : Phase
-  seen : Scope
-  stands : stood ss p ≡ exists one branch seen
-  below : (b : Phase) (s : Scope) → under (put ss p (exists z b s)) ≡ replaced (under ss) at z
+pub record IsAt (under : Standings → Parts) (at_dag : Sels) (i at j : ℕ) (ss : Standings) (one z : Made) : Type 0 where
+  pub p : ℕ
+  pub own : one.own.node.path.sels ≡ at_dag ++ task_sel j ∷ []
+  pub here : i + p ≡ j
+  pub branch : Phase
+  pub seen : Scope
+  pub stands : stood ss p ≡ exists one branch seen
+  pub below : (b : Phase) (s : Scope) → under (put ss p (exists z b s)) ≡ replaced (under ss) at z
 
 module _ (doomed : Bool) (place : Place) (j : ℕ) (one z : Made) (sought : is_of_task (length place.sels) j one ≡ true) where
   abbrev first_by : Bool → ℕ → Standings → Parts
@@ -311,7 +308,7 @@ module _ (doomed : Bool) (place : Place) (j : ℕ) (one z : Made) (sought : is_o
         let r = later at is in
         record { p = suc r.p; own = r.own; here = omega (arith, r.here); branch = r.branch; seen = r.seen; stands = r.stands; below = λ c s. ap (call m.own m.parts) (r.below c s) }
 
-  found_at : (i at : ℕ) (ss : Standings) → AreOwn place.sels i ss → call_at (tasks_below doomed place i ss) at ≡ Some one → IsAt (tasks_below doomed place i) place.sels i at j ss one z
+  pub found_at : (i at : ℕ) (ss : Standings) → AreOwn place.sels i ss → call_at (tasks_below doomed place i ss) at ≡ Some one → IsAt (tasks_below doomed place i) place.sels i at j ss one z
   found_at i at [] own is = absurd (cc is)
   found_at i at (s ∷ ss) own is =
       let r = by_standing i s.0 ss (λ k there. found_at (suc i) k ss own.1 there) doomed s.1 at own.0 is in
@@ -323,7 +320,7 @@ pub seen_not_over : (d : Dag) (t : Task) (z : Made) (branch : Phase) (seen : Sco
 seen_not_over d t z branch seen (inl off) = inl off
 seen_not_over d t z branch seen (inr ends) = inr ends.last
 
-never_both : (a b c : Bool) → (a && c) ≡ false → (a && (b && c)) ≡ false
+pub never_both : (a b c : Bool) → (a && c) ≡ false → (a && (b && c)) ≡ false
 never_both false b c e = refl
 never_both true true c e = e
 never_both true false c e = refl
@@ -404,7 +401,7 @@ module _ (m : Manifest) (A B : Answers) (changed : Sels) (same : SameBut A B cha
   -- the DAG's node is the same, over what the task makes now
   module _ (place : Place) (scope : Scope) (declared : List OutputDecl) (d : Dag) (ranked : HasRank d.tasks) where
     -- its node stands at its place
-    depth_is : (old : Made) → old ≡ dag_made B called_then place scope declared d → length place.sels ≡ length old.own.node.path.sels
+    pub depth_is : (old : Made) → old ≡ dag_made B called_then place scope declared d → length place.sels ≡ length old.own.node.path.sels
     depth_is old is =
         let ss = standings B called_then place scope d in
         sym (ap (λ (b : Made). length b.own.node.path.sels) is ∙ ap (λ (p : Sels). length p) (ended place kind.DAG (dag_phase d ss) note.None no_outputs (computed (dag_tags ss ++ scope) declared)))

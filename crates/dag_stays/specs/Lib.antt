@@ -2,6 +2,9 @@ pub mod Unmoved
 pub mod ByTask
 pub mod Knowing
 pub mod Unseen
+pub mod Over
+pub mod Behind
+pub mod Following
 pub use Rattle.dag_plan.specs.Plans
 pub use Rattle.dag_board.specs.Boards
 pub use Rattle.locality.specs.Answered

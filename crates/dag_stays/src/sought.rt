@@ -1,7 +1,11 @@
 //! What the tasks of a DAG made, found among the calls below its node.
 
-ghost use Rattle.std.specs.Prelude.{◌≡◌, true, length, slice_get, Some, IfOk, IfSome};
+ghost use Rattle.std.specs.Prelude.{◌≡◌, Bool, true, length, slice_get, Some, IfOk, IfSome, option_map};
+ghost use Rattle.meaning.specs.declared.lines.Place.{Place};
+ghost use Rattle.meaning.specs.Dags.{Standings};
+ghost use Rattle.dag_board.specs.Boards.{stood, made_of};
 ghost use Rattle.tree_state.specs.Replacing.{call_at};
+ghost use Rattle.dag_stays.specs.Over.{StandsOver};
 ghost use Rattle.dag_stays.specs.ByTask as spec;
 
 use base_types::{List, Memory, TryCopy};
@@ -30,13 +34,20 @@ fn is_in_front(call: &State, depth: usize, i: usize) -> bool
 }
 
 /// What the task at position `j` of a DAG made, and where it stands among the calls below the DAG's node. As the calls stand in
-/// the order of their tasks, it is looked for by halves.
+/// the order of their tasks, it is looked for at its own position, where it stands once all tasks before it exist, and then by halves.
 pub fn call_of_task(dag: &State, j: u32) -> Option<(usize, &State)>
     ensures call { IfSome result (λ found. call_at dag.now.parts found.0 ≡ Some found.1.now) }
     ensures task { let depth = length dag.now.own.node.path.sels in
         IfSome result (λ found. spec.is_of_task depth j found.1.now ≡ true) }
+    ensures made { (doomed : Bool) (place : Place) (ss : Standings) → StandsOver doomed place ss dag.now →
+        option_map (λ found. found.1.now) result ≡ made_of (stood ss j) }
 {
     let depth = dag.node().path.sels.len();
+    if let Some(call) = dag.call_at(j as usize) {
+        if is_of_task(call, depth, j as usize) {
+            return Some((j as usize, call));
+        }
+    }
     let mut low: usize = 0;
     let mut high = j as usize + 1;
     while low < high {

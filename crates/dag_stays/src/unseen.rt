@@ -1,63 +1,25 @@
 //! A task that ends where no other task sees it.
 
-ghost use Rattle.std.specs.Prelude.{◌≡◌, ◌↔◌, IsTrue};
-ghost use Rattle.base_types.specs.Names.{is_among};
-ghost use Rattle.depends_expr.specs.Truth.{names_of};
-ghost use Rattle.task_order.specs.Orders.{waited};
+ghost use Rattle.std.specs.Prelude.{◌≡◌, ◌↔◌, ◌&&◌, not, IsTrue, Some, slice_get};
+ghost use Rattle.wf_manifest.specs.declared.calls.Task.{Task as OneTask};
+ghost use Rattle.meaning.specs.Steps as steps;
 ghost use Rattle.meaning.specs.Dags as dags;
+ghost use Rattle.dag_plan.specs.Plans.{IsPlan};
 ghost use Rattle.dag_stays.specs.Unseen.{IsUnseen};
 
-use base_types::Text;
 use call_nodes::covered;
-use depends_expr::Depends;
+use dag_plan::DagPlan;
 use tree_state::State;
 use tree_types::Phase;
 use wf_manifest::{Dag, Task};
 
-fn is_among(names: &[Text], name: &Text) -> bool
-    ensures { result ≡ is_among names.now name.now }
-{
-    for other in names {
-        if *name == *other {
-            return true;
-        }
-    }
-    false
-}
-
-// Whether a `depends` names a task.
-fn is_named(depends: &Depends, name: &Text) -> bool
-    ensures { result ≡ is_among (names_of depends.now) name.now }
-{
-    for i in 0..depends.names() {
-        if name.as_str() == depends.name(i) {
-            return true;
-        }
-    }
-    false
-}
-
-// Whether a task waits for the one of a name.
-fn waits_for(task: &Task, name: &Text) -> bool
-    ensures { result ≡ is_among (waited task.now) name.now }
-{
-    match (&task.depends, &task.dependencies) {
-        (Some(depends), _) => is_named(depends, name),
-        (None, Some(names)) => is_among(names.as_slice(), name),
-        (None, None) => false,
-    }
-}
-
-// Whether no task waits for it.
-fn is_last(dag: &Dag, task: &Task) -> bool
+// Whether no task waits for the one at position `j`.
+fn is_last(dag: &Dag, plan: &DagPlan, task: &Task, j: usize) -> bool
+    requires plan { IsPlan dag.now plan.now }
+    requires task { slice_get dag.now.tasks j ≡ Some task.now }
     ensures { result ≡ dags.is_last dag.now.tasks task.now }
 {
-    for other in dag.tasks.as_slice() {
-        if waits_for(other, &task.call.name) {
-            return false;
-        }
-    }
-    true
+    plan.behind.get(j).as_slice().is_empty()
 }
 
 fn is_bad(phase: Phase) -> bool
@@ -66,16 +28,25 @@ fn is_bad(phase: Phase) -> bool
     matches!(phase, Phase::Failed | Phase::Error)
 }
 
-/// Whether a task of a DAG that ran makes what no other task sees: it runs on; or it ends, no task waits for it, and it does not
-/// doom the DAG.
-pub fn is_unseen(dag: &Dag, task: &Task, new: &State) -> bool
+/// Whether a task that ended with this does not doom its DAG.
+pub fn spares(dag: &Dag, task: &Task, new: &State) -> bool
+    ensures { result ≡ not (dag.now.fail_fast && dags.is_bad (steps.covered task.now.call.continue_on new.now.own.node.phase)) }
+{
+    !(dag.fail_fast && is_bad(covered(&task.call.continue_on, new.phase())))
+}
+
+/// Whether the task at position `j` of a DAG, which ran, makes what no other task sees: it runs on; or it ends, no task waits for
+/// it, and it does not doom the DAG.
+pub fn is_unseen(dag: &Dag, plan: &DagPlan, task: &Task, j: usize, new: &State) -> bool
+    requires plan { IsPlan dag.now plan.now }
+    requires task { slice_get dag.now.tasks j ≡ Some task.now }
     ensures { IsTrue result ↔ IsUnseen dag.now task.now new.now }
 {
     if !new.is_finished() {
         return true;
     }
-    if dag.fail_fast && is_bad(covered(&task.call.continue_on, new.phase())) {
+    if !spares(dag, task, new) {
         return false;
     }
-    is_last(dag, task)
+    is_last(dag, plan, task, j)
 }

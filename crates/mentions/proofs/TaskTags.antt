@@ -15,11 +15,11 @@ use Rattle.meaning.specs.Dags.{Names, awaited, is_meant, Standing, waiting, read
 use Rattle.mentions.specs.Unasked.{TaskTagsBeginSo}
 use Rattle.mentions.proofs.GroupTags.{begin_so, both, tags_so, passed}
 
-abbrev so : Scope → Bool
+abbrev pub so : Scope → Bool
 so tags = begin_so (codes "tasks.") tags
 
 -- the tags of the tasks before one
-abbrev seen_by : Standing → Scope
+abbrev pub seen_by : Standing → Scope
 seen_by (exists m branch seen) = seen
 seen_by _ = []
 
@@ -29,7 +29,7 @@ up_to_so n ready e = refl
 up_to_so n (exists m branch seen) e = both (codes "tasks.") (tags_of (codes "tasks." ++ n) m) seen (tags_so (codes "tasks.") n m) e
 
 module _ (at : Look) (all : (n : List ℕ) → so (seen_by (at n)) ≡ true) where
-  before_so : (ns : Names) → so (tags_before at ns) ≡ true
+  pub before_so : (ns : Names) → so (tags_before at ns) ≡ true
   before_so [] = refl
   before_so (n ∷ ns) = both (codes "tasks.") (tags_up_to n (at n)) (tags_before at ns) (up_to_so n (at n) (all n)) (before_so ns)
 
@@ -64,7 +64,7 @@ module _ (at : Look) (all : (n : List ℕ) → so (seen_by (at n)) ≡ true) whe
         one true later = by_so A called place scope d i t (is_meant d t)
         one false later = later
 
-rounds_so : (A : Answers) (called : Caller) (place : Place) (scope : Scope) (d : Dag) (k : ℕ) (n : List ℕ) → so (seen_by (look (rounds A called place scope d k) n)) ≡ true
+pub rounds_so : (A : Answers) (called : Caller) (place : Place) (scope : Scope) (d : Dag) (k : ℕ) (n : List ℕ) → so (seen_by (look (rounds A called place scope d k) n)) ≡ true
 rounds_so A called place scope d zero n = refl
 rounds_so A called place scope d (suc k) n =
     rows_so (look (rounds A called place scope d k)) (rounds_so A called place scope d k) A called place scope d 0 d.tasks n

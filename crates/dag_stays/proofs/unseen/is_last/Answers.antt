@@ -1,25 +1,13 @@
--- A task that is found waits for it, and one more that does not leaves what was found.
-use Rattle.std.proofs.Common.{◌≡◌, true, false, not, sym, ap, ◌∙◌, Bool}
-use Rattle.std.specs.List.{list_any}
-use Rattle.base_types.specs.Names.{is_among}
-use Rattle.wf_manifest.specs.declared.calls.Task.{Task}
-use Rattle.meaning.specs.Dags.{parents}
-use Rattle.std.specs.Prelude.{bytes_eq}
-use Rattle.dag_stays.proofs.Naming.{found_item, none_item, parents_any}
+-- None stands behind it in the plan.
+use Rattle.std.proofs.Common.{◌≡◌, ℕ, List, [], get_or, length, sym, ap, ◌∙◌}
+use Rattle.std.specs.Prelude.{nat_eq}
+use Rattle.std.proofs.lemmas.Option.{get_or_from_slice_get}
+use Rattle.dag_stays.proofs.Lasts.{last_is}
 use Rattle.dag_stays.proofs.unseen.is_last.Goals as goal
 
-pub returns-then-waits_for : goal.returns-then-waits_for
-returns-then-waits_for c =
-    let ts = c.args.dag.now.tasks in
-    let name = c.args.task.now.call.name in
-    let sees : Task → Bool = λ u. is_among (parents ts u) name in
-    let waits : sees c.other-item.result ≡ true = parents_any (bytes_eq name) ts c.other-item.result ∙ sym c.waits_for.ensures ∙ c.if-waits_for.true in
-    sym (ap not (ap (list_any sees) (sym c.as_slice-other-items.ensures) ∙ found_item sees c.as_slice-other-items.result.now c.loop-other.other-index c.other-item.result c.loop-other-test.true c.other-item.is waits))
-
-pub loop-other-preserved : goal.loop-other-preserved
-loop-other-preserved c =
-    let ts = c.args.dag.now.tasks in
-    let name = c.args.task.now.call.name in
-    let sees : Task → Bool = λ u. is_among (parents ts u) name in
-    let off : sees c.other-item.result ≡ false = parents_any (bytes_eq name) ts c.other-item.result ∙ sym c.waits_for.ensures ∙ c.if-waits_for.false in
-    none_item sees c.as_slice-other-items.result.now c.loop-other.other-index c.other-item.result c.loop-other-test.true c.other-item.is c.loop-other.invariant off
+pub returns : goal.returns
+returns c =
+    let behind = c.args.plan.now.behind in
+    let same : c.as_slice.result.now ≡ get_or behind c.args.j [] = c.as_slice.ensures ∙ sym (get_or_from_slice_get behind c.args.j c.get.result.now [] c.get.ensures) in
+    c.is_empty.ensures ∙ ap (λ (ks : List ℕ). nat_eq (length ks) 0) same
+    ∙ sym (last_is c.args.dag.now c.args.plan.now c.requires.plan c.args.j c.args.task.now c.requires.task)
