@@ -1,6 +1,6 @@
 -- A valid manifest may be walked over.
-use Rattle.std.proofs.Common.{◌≡◌, ℕ, List, [], ◌∷◌, ◌++◌, Option, Some, None, IfSome, Bor, refl, ap, ◌∙◌, sym}
-use Rattle.std.specs.Prelude.{All, IsTrue, bytes_eq, option_copied, map}
+use Rattle.std.proofs.Common.{◌≡◌, List, [], ◌∷◌, ◌++◌, refl, ap, ◌∙◌}
+use Rattle.std.specs.Prelude.{All, IsTrue, map}
 use Rattle.std.specs.List.{list_all}
 use Rattle.std.proofs.lemmas.Bool.{and_parts}
 use Rattle.std.proofs.lemmas.List.Elements.{All-nil, All-cons, All-head, All-tail}
@@ -12,8 +12,7 @@ use Rattle.wf_manifest.specs.declared.templates.Body.{Body}
 use Rattle.wf_manifest.specs.declared.templates.Body.TheVariants as body
 use Rattle.wf_manifest.specs.declared.templates.Template.{Template}
 use Rattle.wf_manifest.specs.declared.manifest.Manifest.{Manifest}
-use Rattle.wf_manifest.specs.Valid.{calls_in, calls_of, has_step_names, steps_differ, is_short, body_is_short, retry_fits, tasks_are_there, HasNoCircle, Valid, template_named}
-use Rattle.wf_manifest.proofs.Each.{All-found}
+use Rattle.wf_manifest.specs.Valid.{calls_in, calls_of, has_step_names, steps_differ, is_short, body_is_short, retry_fits, tasks_are_there, HasNoCircle, Valid}
 use Rattle.tree_walk.specs.Walkable.{IsNamed, AreNamed, IsWalkableBody, IsWalkable}
 
 abbrev Named : List Call → Type 0
@@ -75,7 +74,3 @@ pub walkable_templates : (m : Manifest) → Valid m → All IsWalkable m.templat
 walkable_templates m valid =
     let short = and_parts (is_short m.templates) (list_all (λ t. body_is_short t.body) m.templates) valid.short in
     walkable_all m.templates valid.step_names valid.steps_differ valid.tasks short.1 valid.retries valid.no_circle
-
-pub walkable_found : (m : Manifest) (name : List ℕ) (r : Option (Bor Template)) → Valid m → option_copied r ≡ template_named m name → IfSome r (λ t. IsWalkable t.now)
-walkable_found m name None valid is = tt
-walkable_found m name (Some t) valid is = All-found IsWalkable (λ t. bytes_eq t.name name) m.templates t.now (walkable_templates m valid) (sym is)

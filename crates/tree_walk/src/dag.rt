@@ -30,11 +30,13 @@ impl<R: Recorded> Walk<'_, R> {
         scope: &Scope,
         declared: &OutputDecls,
         dag: &Dag,
+        plan: &DagPlan,
         left: u32,
         room: &mut Room,
     ) -> Result<State, TreeRefused>
         requires ready { IsReady self.now.manifest.now self.now.positions.now }
         requires walkable { IsWalkableDag dag.now }
+        requires plan { IsPlan dag.now plan.now }
         requires shallow { place.depth + 5 * left + 8 < 1000 }
         ensures { let m = self.now.manifest.now in
             let A = R.answers self.now.recorded.now in
@@ -43,9 +45,8 @@ impl<R: Recorded> Walk<'_, R> {
             (dags.dag_made A called place scope.now declared.now dag.now) }
     {
         room.take()?;
-        let plan = DagPlan::new(self.alloc(), dag)?;
-        let board = self.tasks(&place, scope, dag, &plan, left, room)?;
-        Ok(board.made(self.alloc(), dag, &plan, &place, scope, declared)?)
+        let board = self.tasks(&place, scope, dag, plan, left, room)?;
+        Ok(board.made(self.alloc(), dag, plan, &place, scope, declared)?)
     }
 
     // A board of all tasks, gone through in the order of their plan.

@@ -7,5 +7,5 @@ mod templates;
 mod walk;
 
 pub use over::{After, Group, Listed, Row, begins, group_over, steps_over};
-pub use templates::{Positions, find_template, positions_of};
+pub use templates::{Named, Positions, find_template, positions_of};
 pub use walk::{FURTHER_DEPTHS, Walk, top_state};

@@ -1,20 +1,21 @@
 //! The walk over a manifest that makes what its calls make.
 
-ghost use Rattle.std.specs.Prelude.{◌≡◌, ◌+◌, ◌*◌, ◌<◌, ◌≤◌, All, IsTrue, IfOk, IfSome, Ok, Some, option_copied};
+ghost use Rattle.std.specs.Prelude.{◌≡◌, ◌+◌, ◌*◌, ◌<◌, ◌≤◌, All, IsTrue, IfOk, IfSome, Ok, Some, option_copied, option_map};
 ghost use Rattle.base_types.specs.Limits.{most_nodes};
 ghost use Rattle.fanout.specs.Items.{is_whole};
 ghost use Rattle.meaning.specs.Calls as meant;
 ghost use Rattle.meaning.specs.Steps as steps;
 ghost use Rattle.meaning.specs.Trees as trees;
 ghost use Rattle.tree_state.specs.Counting.{Gives, count};
-ghost use Rattle.tree_walk.specs.Walkable.{IsNamed, AreNamed, IsWalkable};
+ghost use Rattle.tree_walk.specs.Walkable.{IsNamed, AreNamed};
+ghost use Rattle.tree_walk.specs.Planned.{MayWalk};
 ghost use Rattle.tree_walk.specs.Index.{IsReady};
 ghost use Rattle.tree_walk.specs.Walking.{GivesRow, GivesGroups, GivesGroup, hook_depth, label_of, prefix_of};
 
 use crate::over::{
     After, Group, Listed, Row, behind_lock, group_over, halted, hook_scope, steps_over, with_hook,
 };
-use crate::templates::{Positions, find_template};
+use crate::templates::{Named, Positions, find_template};
 use base_types::limits::MOST_DEPTH;
 use base_types::{List, Memory, Text, TryCopy};
 use call_nodes::{copy_place, group_place, hook_place, item_place, kind_of, member_place};
@@ -31,13 +32,13 @@ use tree_state::{Room, Shared, State, TreeRefused};
 use tree_types::{Kind, Note, Phase};
 use wf_manifest::{
     Arguments, Body, Call, Group as Calls, Groups, Hook, Json, Manifest, Memoize, OutputDecls,
-    Template,
 };
 
 /// How many depths may be called below the entrypoint and the exit handler, which have depth 1.
 pub const FURTHER_DEPTHS: u32 = MOST_DEPTH - 1;
 
-/// A manifest, where its templates stand, the scope of the workflow's tags, and what is recorded of it.
+/// A manifest, where its templates stand, with the plans of its DAGs, the scope of the workflow's tags, and what is recorded
+/// of it.
 pub struct Walk<'a, R> {
     pub manifest: &'a Manifest,
     pub positions: &'a Positions,
@@ -99,16 +100,17 @@ impl<R: Recorded> Walk<'_, R> {
         ensures { result ≡ meant.kind_named self.now.manifest.now name.now }
     {
         match find_template(self.manifest, self.positions, name) {
-            Some(template) => kind_of(template),
+            Some(named) => kind_of(named.template),
             None => Kind::Pod,
         }
     }
 
-    /// The template of a name, which may be walked over.
-    pub fn template_of(&self, name: &Text) -> Option<&Template>
+    /// The template of a name, which may be walked over, with its plan.
+    pub fn template_of(&self, name: &Text) -> Option<Named<'_>>
         requires ready { IsReady self.now.manifest.now self.now.positions.now }
-        ensures found { option_copied result ≡ meant.template_named self.now.manifest.now name.now }
-        ensures walkable { IfSome result (λ template. IsWalkable template.now) }
+        ensures found { option_map (λ n. n.template.now) result
+            ≡ meant.template_named self.now.manifest.now name.now }
+        ensures walkable { IfSome result (λ n. MayWalk n) }
     {
         find_template(self.manifest, self.positions, name)
     }
@@ -120,7 +122,7 @@ impl<R: Recorded> Walk<'_, R> {
             (meant.declared_by (meant.template_named self.now.manifest.now call.now.template)) states) }
     {
         match find_template(self.manifest, self.positions, &call.template) {
-            Some(template) => loop_state(place, &template.outputs, states),
+            Some(named) => loop_state(place, &named.template.outputs, states),
             None => loop_state(place, &OutputDecls::new(self.alloc()), states),
         }
     }
@@ -329,11 +331,12 @@ impl<R: Recorded> Walk<'_, R> {
             (meant.call_of_template m A g (meant.calls m A g left) place scope.now name.now given.now
             (meant.hooked m A g (meant.calls m A g left) (label_of after.entry) place scope.now (option_copied after.entry.exit))) }
     {
-        let Some(template) = self.template_of(name) else {
+        let Some(named) = self.template_of(name) else {
             return lone(place, Kind::Pod, Phase::Error, Note::None, room);
         };
+        let template = named.template;
         match template_scope(self.alloc(), self.globals, scope, given, &template.inputs) {
-            Ok(inner) => self.entered(place, scope, &inner, template, after, left, room),
+            Ok(inner) => self.entered(place, scope, &inner, named, after, left, room),
             Err(halt) => halted(place, kind_of(template), halt, room),
         }
     }
@@ -344,26 +347,26 @@ impl<R: Recorded> Walk<'_, R> {
         place: Place,
         scope: &Scope,
         inner: &Scope,
-        template: &Template,
+        named: Named<'_>,
         after: After<'_>,
         left: u32,
         room: &mut Room,
     ) -> Result<State, TreeRefused>
         requires ready { IsReady self.now.manifest.now self.now.positions.now }
-        requires walkable { IsWalkable template.now }
+        requires walkable { MayWalk named }
         requires shallow { place.depth + 5 * left + 8 + hook_depth after.exit < 1000 }
         ensures { let m = self.now.manifest.now in
             let A = R.answers self.now.recorded.now in
             let g = self.now.globals.now in
             Gives room.old room.new result
             (meant.hooked m A g (meant.calls m A g left) (label_of after.entry) place scope.now (option_copied after.entry.exit)
-            (meant.template_made A (meant.calls m A g left) place inner.now template.now)) }
+            (meant.template_made A (meant.calls m A g left) place inner.now named.entry.template.now)) }
     {
         let Some(hook) = after.exit else {
-            return self.template(place, inner, template, left, room);
+            return self.template(place, inner, named, left, room);
         };
         let at = copy_place(&place)?;
-        let state = self.template(place, inner, template, left, room)?;
+        let state = self.template(place, inner, named, left, room)?;
         self.hook(state, &at, scope, hook, after, left, room)
     }
 
@@ -414,25 +417,26 @@ impl<R: Recorded> Walk<'_, R> {
         &self,
         place: Place,
         scope: &Scope,
-        template: &Template,
+        named: Named<'_>,
         left: u32,
         room: &mut Room,
     ) -> Result<State, TreeRefused>
         requires ready { IsReady self.now.manifest.now self.now.positions.now }
-        requires walkable { IsWalkable template.now }
+        requires walkable { MayWalk named }
         requires shallow { place.depth + 5 * left + 8 < 1000 }
         ensures { let m = self.now.manifest.now in
             let A = R.answers self.now.recorded.now in
             let g = self.now.globals.now in
             Gives room.old room.new result
-            (meant.template_made A (meant.calls m A g left) place scope.now template.now) }
+            (meant.template_made A (meant.calls m A g left) place scope.now named.entry.template.now) }
     {
+        let template = named.template;
         if let Some(lock) = behind_lock(self.recorded, &place, template) {
             return waiting(place, kind_of(template), lock, room);
         }
         match &template.memoize {
-            None => self.body(place, scope, template, left, room),
-            Some(memoize) => self.memoized(place, scope, template, memoize, left, room),
+            None => self.body(place, scope, named, left, room),
+            Some(memoize) => self.memoized(place, scope, named, memoize, left, room),
         }
     }
 
@@ -441,23 +445,23 @@ impl<R: Recorded> Walk<'_, R> {
         &self,
         place: Place,
         scope: &Scope,
-        template: &Template,
+        named: Named<'_>,
         memoize: &Memoize,
         left: u32,
         room: &mut Room,
     ) -> Result<State, TreeRefused>
         requires ready { IsReady self.now.manifest.now self.now.positions.now }
-        requires walkable { IsWalkable template.now }
+        requires walkable { MayWalk named }
         requires shallow { place.depth + 5 * left + 8 < 1000 }
         ensures { let m = self.now.manifest.now in
             let A = R.answers self.now.recorded.now in
             let g = self.now.globals.now in
             Gives room.old room.new result
-            (meant.memo_made A (meant.calls m A g left) place scope.now template.now (Some memoize.now)) }
+            (meant.memo_made A (meant.calls m A g left) place scope.now named.entry.template.now (Some memoize.now)) }
     {
         match said(&memoize.key, scope) {
-            Ok(key) => self.remembered(place, scope, template, memoize, key, left, room),
-            Err(halt) => halted(place, kind_of(template), halt, room),
+            Ok(key) => self.remembered(place, scope, named, memoize, key, left, room),
+            Err(halt) => halted(place, kind_of(named.template), halt, room),
         }
     }
 
@@ -466,25 +470,26 @@ impl<R: Recorded> Walk<'_, R> {
         &self,
         place: Place,
         scope: &Scope,
-        template: &Template,
+        named: Named<'_>,
         memoize: &Memoize,
         key: Text,
         left: u32,
         room: &mut Room,
     ) -> Result<State, TreeRefused>
         requires ready { IsReady self.now.manifest.now self.now.positions.now }
-        requires walkable { IsWalkable template.now }
+        requires walkable { MayWalk named }
         requires shallow { place.depth + 5 * left + 8 < 1000 }
         ensures { let m = self.now.manifest.now in
             let A = R.answers self.now.recorded.now in
             let g = self.now.globals.now in
             Gives room.old room.new result
-            (meant.remembered A (meant.calls m A g left) place scope.now template.now memoize.now key (A.memo place.sels)) }
+            (meant.remembered A (meant.calls m A g left) place scope.now named.entry.template.now memoize.now key (A.memo place.sels)) }
     {
+        let template = named.template;
         match self.recorded.memo(&place.sels) {
             None => looking(place, template, memoize, key, room),
             Some(Some(kept)) => hit(place, kind_of(template), memoize, key, kept, room),
-            Some(None) => self.missed(place, scope, template, memoize, key, left, room),
+            Some(None) => self.missed(place, scope, named, memoize, key, left, room),
         }
     }
 
@@ -493,23 +498,23 @@ impl<R: Recorded> Walk<'_, R> {
         &self,
         place: Place,
         scope: &Scope,
-        template: &Template,
+        named: Named<'_>,
         memoize: &Memoize,
         key: Text,
         left: u32,
         room: &mut Room,
     ) -> Result<State, TreeRefused>
         requires ready { IsReady self.now.manifest.now self.now.positions.now }
-        requires walkable { IsWalkable template.now }
+        requires walkable { MayWalk named }
         requires shallow { place.depth + 5 * left + 8 < 1000 }
         ensures { let m = self.now.manifest.now in
             let A = R.answers self.now.recorded.now in
             let g = self.now.globals.now in
             Gives room.old room.new result
-            (meant.saving place memoize.now key (meant.body_made A (meant.calls m A g left) place scope.now template.now)) }
+            (meant.saving place memoize.now key (meant.body_made A (meant.calls m A g left) place scope.now named.entry.template.now)) }
     {
         let sels = place.sels.copy()?;
-        let state = self.body(place, scope, template, left, room)?;
+        let state = self.body(place, scope, named, left, room)?;
         Ok(saving(state, sels, memoize, key)?)
     }
 
@@ -518,26 +523,30 @@ impl<R: Recorded> Walk<'_, R> {
         &self,
         place: Place,
         scope: &Scope,
-        template: &Template,
+        named: Named<'_>,
         left: u32,
         room: &mut Room,
     ) -> Result<State, TreeRefused>
         requires ready { IsReady self.now.manifest.now self.now.positions.now }
-        requires walkable { IsWalkable template.now }
+        requires walkable { MayWalk named }
         requires shallow { place.depth + 5 * left + 8 < 1000 }
         ensures { let m = self.now.manifest.now in
             let A = R.answers self.now.recorded.now in
             let g = self.now.globals.now in
             Gives room.old room.new result
-            (meant.body_made A (meant.calls m A g left) place scope.now template.now) }
+            (meant.body_made A (meant.calls m A g left) place scope.now named.entry.template.now) }
     {
+        let Named { template, plan } = named;
         let declared = &template.outputs;
-        match (&template.body, &template.retry) {
-            (Body::Pod, None) => pod(self.recorded, place, declared, room),
-            (Body::Pod, Some(retry)) => retried(self.recorded, place, declared, retry, room),
-            (Body::Steps(groups), _) => self.steps(place, scope, declared, groups, left, room),
-            (Body::Dag(dag), _) => self.dag(place, scope, declared, dag, left, room),
-            (Body::Suspend(duration), _) => {
+        match (&template.body, &template.retry, plan) {
+            (Body::Pod, None, _) => pod(self.recorded, place, declared, room),
+            (Body::Pod, Some(retry), _) => retried(self.recorded, place, declared, retry, room),
+            (Body::Steps(groups), _, _) => self.steps(place, scope, declared, groups, left, room),
+            (Body::Dag(dag), _, Some(plan)) => {
+                self.dag(place, scope, declared, dag, plan, left, room)
+            }
+            (Body::Dag(_), _, None) => unreachable!(),
+            (Body::Suspend(duration), _, _) => {
                 suspended(self.recorded, place, scope, declared, duration, room)
             }
         }

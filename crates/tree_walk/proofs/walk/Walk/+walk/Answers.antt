@@ -49,7 +49,7 @@ called-returns-in-Ok g t c =
     let m = c.args.self.now.manifest.now in
     let A = g.R.Recorded.answers c.args.self.now.recorded.now in
     let scopes = c.args.self.now.globals.now in
-    called_enters m A scopes c.args.left c.args.place c.args.scope.now c.in-Ok.inner c.args.name.now c.args.given.now (hooked m A scopes (calls m A scopes c.args.left) (label_of c.args.after) c.args.place c.args.scope.now (option_copied c.args.after.exit)) c.in-Some.template.now c.args.room.now c.entered.new.room c.entered.result c.in-Some.ensures.found c.in-Ok.ensures c.entered.ensures
+    called_enters m A scopes c.args.left c.args.place c.args.scope.now c.in-Ok.inner c.args.name.now c.args.given.now (hooked m A scopes (calls m A scopes c.args.left) (label_of c.args.after) c.args.place c.args.scope.now (option_copied c.args.after.exit)) c.in-Some.named.template.now c.args.room.now c.entered.new.room c.entered.result c.in-Some.ensures.found c.in-Ok.ensures c.entered.ensures
 
 pub entered-returns-in_err-state : goal.entered-returns-in_err-state
 entered-returns-in_err-state g t c =
@@ -57,7 +57,7 @@ entered-returns-in_err-state g t c =
     let A = g.R.Recorded.answers c.args.self.now.recorded.now in
     let scopes = c.args.self.now.globals.now in
     let called = calls m A scopes c.args.left in
-    let made = template_made A called c.args.place c.args.inner.now c.args.template.now in
+    let made = template_made A called c.args.place c.args.inner.now c.args.named.template.now in
     let whole = hooked m A scopes called (label_of c.args.after) c.args.place c.args.scope.now (option_copied c.args.after.exit) made in
     by_err (λ r. Gives c.args.room.now c.template-2.new.room r whole) c.from_residual-in_err-state.result c.in_err-state.field-0.0 c.from_residual-in_err-state.ensures.1
     (part_fails c.args.room.now c.template-2.new.room made whole c.in_err-state.field-0.0 (hooked_longer m A scopes c.args.left (label_of c.args.after) c.args.place c.args.scope.now (option_copied c.args.after.exit) made) c.in_err-state.ensures)
@@ -281,7 +281,7 @@ missed-returns-in_err-state g t c =
     let A = g.R.Recorded.answers c.args.self.now.recorded.now in
     let scopes = c.args.self.now.globals.now in
     let called = calls m A scopes c.args.left in
-    let b = body_made A called c.args.place c.args.scope.now c.args.template.now in
+    let b = body_made A called c.args.place c.args.scope.now c.args.named.template.now in
     let whole = saving c.args.place c.args.memoize.now c.args.key b in
     by_err (λ r. Gives c.args.room.now c.body.new.room r whole) c.from_residual-in_err-state.result c.in_err-state.field-0.0 c.from_residual-in_err-state.ensures.1
     (part_fails c.args.room.now c.body.new.room b whole c.in_err-state.field-0.0 (omega (arith, count_saving c.args.place c.args.memoize.now c.args.key b)) c.in_err-state.ensures)
@@ -293,7 +293,7 @@ remembered-returns-in-Some-None g t c =
     let scopes = c.args.self.now.globals.now in
     let called = calls m A scopes c.args.left in
     let miss : Some None ≡ A.memo c.args.place.sels = ap (λ o. Some (option_copied o)) (sym c.in-Some-None.field-0-is) ∙ c.in-Some-None.ensures in
-    subst (λ (o : Option MemoAnswer). Gives c.args.room.now c.missed.new.room c.missed.result (remembered A called c.args.place c.args.scope.now c.args.template.now c.args.memoize.now c.args.key o)) miss c.missed.ensures
+    subst (λ (o : Option MemoAnswer). Gives c.args.room.now c.missed.new.room c.missed.result (remembered A called c.args.place c.args.scope.now c.args.named.template.now c.args.memoize.now c.args.key o)) miss c.missed.ensures
 
 pub steps-returns : goal.steps-returns
 steps-returns g t c =
@@ -311,7 +311,7 @@ dag-returns-in_err-board g t c =
     let called = calls m A scopes c.args.left in
     let whole = dag_made A called c.args.place c.args.scope.now c.args.declared.now c.args.dag.now in
     by_err (λ r. Gives c.args.room.now c.tasks.new.room r whole) c.from_residual-in_err-board.result c.in_err-board.field-0.0 c.from_residual-in_err-board.ensures.1
-    (dag_fails A called c.args.place c.args.scope.now c.args.dag.now c.args.declared.now c.in_ok-plan.plan c.args.room.now c.take.new.self c.tasks.new.room c.in_err-board.field-0.0 c.in_ok-plan.ensures c.in_ok-take.ensures.takes c.in_err-board.ensures)
+    (dag_fails A called c.args.place c.args.scope.now c.args.dag.now c.args.declared.now c.args.plan.now c.args.room.now c.take.new.self c.tasks.new.room c.in_err-board.field-0.0 c.requires.plan c.in_ok-take.ensures.takes c.in_err-board.ensures)
 
 pub dag-made-requires-clause-named : goal.dag-made-requires-clause-named
 dag-made-requires-clause-named g t c = named_at c.args.dag.now.tasks c.requires.walkable.named
@@ -322,7 +322,7 @@ dag-returns g t c =
     let A = g.R.Recorded.answers c.args.self.now.recorded.now in
     let scopes = c.args.self.now.globals.now in
     let called = calls m A scopes c.args.left in
-    dag_done A called c.args.place c.args.scope.now c.args.dag.now c.args.declared.now c.in_ok-plan.plan c.in_ok-board.board c.args.room.now c.take.new.self c.tasks.new.room c.in_ok-made.field-0 c.in_ok-plan.ensures c.in_ok-take.ensures.takes c.in_ok-board.ensures c.in_ok-made.ensures
+    dag_done A called c.args.place c.args.scope.now c.args.dag.now c.args.declared.now c.args.plan.now c.in_ok-board.board c.args.room.now c.take.new.self c.tasks.new.room c.in_ok-made.field-0 c.requires.plan c.in_ok-take.ensures.takes c.in_ok-board.ensures c.in_ok-made.ensures
 
 pub freed-returns-then-not-begins : goal.freed-returns-then-not-begins
 freed-returns-then-not-begins g t c =

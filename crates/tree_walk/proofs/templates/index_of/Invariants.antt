@@ -1,12 +1,12 @@
 -- The templates from template i on are found.
 use Rattle.std.proofs.Common.{◌≤◌, length}
 use Rattle.tree_walk.specs.Index.{IsIndex}
-use Rattle.tree_walk.proofs.templates.positions_of.Given as goal
+use Rattle.tree_walk.proofs.templates.index_of.Given as goal
 
 abbrev pub invariant-loop-i : goal.invariant-loop-i
 invariant-loop-i l = record {
   within : l.i ≤ length l.manifest.templates;
-  found : IsIndex l.positions l.manifest.templates l.i;
+  found : IsIndex l.index l.manifest.templates l.i;
 }
 
 abbrev pub decreases-loop-i : goal.decreases-loop-i
