@@ -1,15 +1,10 @@
 -- From what is said of a state below to what is said of the one above.
-use Rattle.std.proofs.Common.{◌≡◌, ℕ, List, [], ◌∷◌, ◌++◌, append_assoc, sym, ap, ◌∙◌, subst, Option, Some, None, Result, Ok, Err}
-use Rattle.std.specs.Prelude.{bytes_eq, IsTrue}
+use Rattle.std.proofs.Common.{◌≡◌, [], ◌∷◌, ◌++◌, append_assoc, sym, ap, ◌∙◌, subst, Option, Some, None, Result, Ok, Err}
+use Rattle.std.specs.Prelude.{IsTrue}
 use Rattle.base_types.specs.declared.memory.Memory.{Memory}
 use Rattle.tree_types.specs.declared.path.Sel.{Sel}
-use Rattle.wf_manifest.specs.declared.templates.Body.TheVariants as body
 use Rattle.wf_manifest.specs.declared.templates.Retry.{Retry}
-use Rattle.wf_manifest.specs.declared.templates.Template.{Template}
-use Rattle.wf_manifest.specs.declared.calls.Dag.{Dag}
-use Rattle.wf_manifest.specs.declared.manifest.Manifest.{Manifest}
-use Rattle.wf_manifest.specs.Valid.{template_named, HasRank, HasNoCircle, limit_fits, retry_fits, Valid}
-use Rattle.wf_manifest.proofs.Each.{All-found, All-from_list_all}
+use Rattle.wf_manifest.specs.Valid.{limit_fits, retry_fits}
 use Rattle.meaning.specs.Answers.{Sels}
 use Rattle.meaning.specs.Lines.{Made}
 use Rattle.tree_change.specs.Changes.{IfGiven}
@@ -39,19 +34,7 @@ further changed at s others way = way ∙ sym (append_assoc at (s ∷ []) others
 pub some_same : {X : Type 0} (x y : X) (o : Option X) → o ≡ Some x → o ≡ Some y → x ≡ y
 some_same x y o found is = cc
 
--- ---- no task of a valid manifest waits for itself
-
-pub no_circle_found : (m : Manifest) (name : List ℕ) (t : Template) → Valid m → Some t ≡ template_named m name → HasNoCircle t.body
-no_circle_found m name t valid found = All-found (λ u. HasNoCircle u.body) (λ u. bytes_eq u.name name) m.templates t valid.no_circle (sym found)
-
-pub ranked_dag : (t : Template) (d : Dag) → HasNoCircle t.body → t.body ≡ body.Dag d → HasRank d.tasks
-ranked_dag t d circle form = subst HasNoCircle form circle
-
--- ---- its retries are within their number
-
-pub fits_found : (m : Manifest) (name : List ℕ) (t : Template) → Valid m → Some t ≡ template_named m name → IsTrue (retry_fits t.retry)
-fits_found m name t valid found =
-    All-found (λ u. IsTrue (retry_fits u.retry)) (λ u. bytes_eq u.name name) m.templates t (All-from_list_all (λ u. retry_fits u.retry) m.templates valid.retries) (sym found)
+-- ---- retries are within their number
 
 pub limit_of : (o : Option Retry) (r : Retry) → IsTrue (retry_fits o) → o ≡ Some r → IsTrue (limit_fits r.limit)
 limit_of o r fits is = subst (λ (x : Option Retry). IsTrue (retry_fits x)) is fits

@@ -1,4 +1,5 @@
 mod Beside
+mod Waiting
 mod Calling
 mod Changing
 mod Entering

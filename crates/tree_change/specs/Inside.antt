@@ -1,4 +1,5 @@
 -- What speaks only of private code.
+pub mod Behind
 pub mod Groups
 pub mod OneItem
 pub mod Resuming

@@ -13,7 +13,8 @@ ghost use Rattle.locality.specs.Answered.{SameBut};
 ghost use Rattle.tree_state.specs.Counting.{Gives};
 ghost use Rattle.tree_state.specs.Replacing.{call_at};
 ghost use Rattle.tree_walk.specs.Index.{IsReady};
-ghost use Rattle.tree_walk.specs.Walkable.{IsNamed, AreNamed, IsWalkable};
+ghost use Rattle.tree_walk.specs.Walkable.{IsNamed, AreNamed};
+ghost use Rattle.tree_walk.specs.Planned.{MayWalk};
 ghost use Rattle.tree_walk.specs.Walking.{hook_depth, label_of, prefix_of};
 ghost use Rattle.tree_change.specs.Entered.{IsRunning};
 ghost use Rattle.tree_change.specs.Inside.Groups.{KeepsFront, KeepsGroup};
@@ -35,10 +36,10 @@ use scopes::Scope;
 use tree_state::{Room, Shared, State, TreeRefused};
 use tree_types::Sel;
 use tree_walk::{
-    After, FURTHER_DEPTHS, Group, Listed, Positions, Walk, group_over, steps_over, top_state,
+    After, FURTHER_DEPTHS, Group, Listed, Named, Positions, Walk, group_over, steps_over, top_state,
 };
 use wf_manifest::{
-    Arguments, Call, Group as Calls, Groups, Json, Loop, Manifest, Memoize, OutputDecls, Template,
+    Arguments, Call, Group as Calls, Groups, Json, Loop, Manifest, Memoize, OutputDecls,
 };
 
 // A walk over a manifest and what is recorded of it together with a fact, and what was recorded before the fact.
@@ -301,14 +302,15 @@ impl<R: Recorded> Again<'_, R> {
             (meant.call_of_template m A g (meant.calls m A g left) place scope.now name.now given.now
             (meant.hooked m A g (meant.calls m A g left) (label_of after.entry) place scope.now (option_copied after.entry.exit))) }
     {
-        let Some(template) = self.walk.template_of(name) else {
+        let Some(named) = self.walk.template_of(name) else {
             return self
                 .walk
                 .called(place, scope, name, given, after, left, room);
         };
         let globals = self.walk.globals;
-        match template_scope(self.walk.alloc(), globals, scope, given, &template.inputs) {
-            Ok(inner) => self.entered(place, scope, &inner, template, after, old, rest, left, room),
+        let inputs = &named.template.inputs;
+        match template_scope(self.walk.alloc(), globals, scope, given, inputs) {
+            Ok(inner) => self.entered(place, scope, &inner, named, after, old, rest, left, room),
             Err(_) => self
                 .walk
                 .called(place, scope, name, given, after, left, room),
@@ -321,7 +323,7 @@ impl<R: Recorded> Again<'_, R> {
         place: Place,
         scope: &Scope,
         inner: &Scope,
-        template: &Template,
+        named: Named<'_>,
         after: After<'_>,
         old: &State,
         rest: &[Sel],
@@ -329,23 +331,23 @@ impl<R: Recorded> Again<'_, R> {
         room: &mut Room,
     ) -> Result<State, TreeRefused>
         requires resumes { Resumes R.answers self.now (place.sels ++ rest.now) }
-        requires walkable { IsWalkable template.now }
+        requires walkable { MayWalk named }
         requires shallow { place.depth + 5 * left + 8 + hook_depth after.exit < 1000 }
         requires runs { IsRunning old.now }
         requires was { let B = R.answers self.now.before.now in
-            old.now ≡ meant.template_made B (calls_before R.answers self.now left) place inner.now template.now }
+            old.now ≡ meant.template_made B (calls_before R.answers self.now left) place inner.now named.template.now }
         ensures { let m = self.now.walk.manifest.now in
             let A = R.answers self.now.walk.recorded.now in
             let g = self.now.walk.globals.now in
             Gives room.old room.new result
             (meant.hooked m A g (meant.calls m A g left) (label_of after.entry) place scope.now (option_copied after.entry.exit)
-            (meant.template_made A (meant.calls m A g left) place inner.now template.now)) }
+            (meant.template_made A (meant.calls m A g left) place inner.now named.entry.template.now)) }
     {
         let Some(hook) = after.exit else {
-            return self.template(place, inner, template, old, rest, left, room);
+            return self.template(place, inner, named, old, rest, left, room);
         };
         let at = copy_place(&place)?;
-        let state = self.template(place, inner, template, old, rest, left, room)?;
+        let state = self.template(place, inner, named, old, rest, left, room)?;
         self.walk.hook(state, &at, scope, hook, after, left, room)
     }
 
@@ -355,34 +357,34 @@ impl<R: Recorded> Again<'_, R> {
         &self,
         place: Place,
         scope: &Scope,
-        template: &Template,
+        named: Named<'_>,
         old: &State,
         rest: &[Sel],
         left: u32,
         room: &mut Room,
     ) -> Result<State, TreeRefused>
         requires resumes { Resumes R.answers self.now (place.sels ++ rest.now) }
-        requires walkable { IsWalkable template.now }
+        requires walkable { MayWalk named }
         requires shallow { place.depth + 5 * left + 8 < 1000 }
         requires runs { IsRunning old.now }
         requires was { let B = R.answers self.now.before.now in
-            old.now ≡ meant.template_made B (calls_before R.answers self.now left) place scope.now template.now }
+            old.now ≡ meant.template_made B (calls_before R.answers self.now left) place scope.now named.template.now }
         ensures { let A = R.answers self.now.walk.recorded.now in
             Gives room.old room.new result
-            (meant.template_made A (calls_now R.answers self.now left) place scope.now template.now) }
+            (meant.template_made A (calls_now R.answers self.now left) place scope.now named.entry.template.now) }
     {
-        let Some((groups, j, others)) = group_below(template, old, rest) else {
-            return self.other(place, scope, template, old, rest, left, room);
+        let Some((groups, j, others)) = group_below(named.template, old, rest) else {
+            return self.other(place, scope, named, old, rest, left, room);
         };
-        let declared = &template.outputs;
-        let Some(memoize) = &template.memoize else {
+        let declared = &named.template.outputs;
+        let Some(memoize) = &named.template.memoize else {
             return self.steps(place, scope, declared, groups, old, j, others, left, room);
         };
         match said(&memoize.key, scope) {
             Ok(key) => self.missed(
                 place, scope, declared, memoize, key, groups, old, j, others, left, room,
             ),
-            Err(_) => self.walk.template(place, scope, template, left, room),
+            Err(_) => self.walk.template(place, scope, named, left, room),
         }
     }
 
@@ -392,34 +394,36 @@ impl<R: Recorded> Again<'_, R> {
         &self,
         place: Place,
         scope: &Scope,
-        template: &Template,
+        named: Named<'_>,
         old: &State,
         rest: &[Sel],
         left: u32,
         room: &mut Room,
     ) -> Result<State, TreeRefused>
         requires resumes { Resumes R.answers self.now (place.sels ++ rest.now) }
-        requires walkable { IsWalkable template.now }
+        requires walkable { MayWalk named }
         requires shallow { place.depth + 5 * left + 8 < 1000 }
         requires runs { IsRunning old.now }
         requires was { let B = R.answers self.now.before.now in
-            old.now ≡ meant.template_made B (calls_before R.answers self.now left) place scope.now template.now }
+            old.now ≡ meant.template_made B (calls_before R.answers self.now left) place scope.now named.template.now }
         ensures { let A = R.answers self.now.walk.recorded.now in
             Gives room.old room.new result
-            (meant.template_made A (calls_now R.answers self.now left) place scope.now template.now) }
+            (meant.template_made A (calls_now R.answers self.now left) place scope.now named.entry.template.now) }
     {
-        let Some((dag, j, others)) = task_below(template, rest) else {
-            return self.walk.template(place, scope, template, left, room);
+        let Some((dag, plan, j, others)) = task_below(named, rest) else {
+            return self.walk.template(place, scope, named, left, room);
         };
-        let declared = &template.outputs;
-        let Some(memoize) = &template.memoize else {
-            return self.dag(place, scope, declared, dag, old, j, others, left, room);
+        let declared = &named.template.outputs;
+        let Some(memoize) = &named.template.memoize else {
+            return self.dag(
+                place, scope, declared, dag, plan, old, j, others, left, room,
+            );
         };
         match said(&memoize.key, scope) {
             Ok(key) => self.missed_dag(
-                place, scope, declared, memoize, key, dag, old, j, others, left, room,
+                place, scope, declared, memoize, key, dag, plan, old, j, others, left, room,
             ),
-            Err(_) => self.walk.template(place, scope, template, left, room),
+            Err(_) => self.walk.template(place, scope, named, left, room),
         }
     }
 

@@ -6,6 +6,7 @@ ghost use Rattle.wf_manifest.specs.declared.templates.OutputDecl.{OutputDecl};
 ghost use Rattle.meaning.specs.Dags as dags;
 ghost use Rattle.tree_walk.specs.Index.{IsReady};
 ghost use Rattle.tree_walk.specs.Walkable.{IsWalkableDag};
+ghost use Rattle.dag_plan.specs.Plans.{IsPlan};
 ghost use Rattle.tree_change.specs.Changes.{IfGiven};
 ghost use Rattle.tree_change.specs.Inside.Unseeing.{SeesNone};
 ghost use Rattle.tree_change.specs.Inside.Resuming.{Resumes, calls_now, calls_before};
@@ -14,6 +15,7 @@ use crate::again::Again;
 use crate::leaf::item_at;
 use base_types::{Memory, TryCopy};
 use call_nodes::task_place;
+use dag_plan::DagPlan;
 use dag_stays::{call_of_task, is_unseen};
 use meaning::Place;
 use mentions::call_asks_for;
@@ -25,7 +27,7 @@ use tree_walk::{Listed, begins};
 use wf_manifest::{Dag, Task};
 
 // Whether a task sees no tag of those that it waits for: it names none, or no text of its call asks for such a tag.
-fn sees_none(dag: &Dag, task: &Task) -> Result<bool, Memory>
+pub(crate) fn sees_none(dag: &Dag, task: &Task) -> Result<bool, Memory>
     ensures { IfOk result (λ sees. IsTrue sees → SeesNone dag.now.tasks task.now) }
 {
     if task.depends.is_none() && task.dependencies.is_none() {
@@ -37,7 +39,7 @@ fn sees_none(dag: &Dag, task: &Task) -> Result<bool, Memory>
 
 impl<R: Recorded> Again<'_, R> {
     // What a task makes as if there had been nothing. None where that has too many nodes for a tree.
-    fn anew(
+    pub(crate) fn anew(
         &self,
         at: Place,
         scope: &Scope,
@@ -66,6 +68,7 @@ impl<R: Recorded> Again<'_, R> {
         place: &Place,
         scope: &Scope,
         dag: &Dag,
+        plan: &DagPlan,
         old: &State,
         j: u32,
         rest: &[Sel],
@@ -73,6 +76,7 @@ impl<R: Recorded> Again<'_, R> {
     ) -> Result<Option<State>, Memory>
         requires resumes { Resumes R.answers self.now (place.now.sels ++ sels.Task j ∷ rest.now) }
         requires walkable { IsWalkableDag dag.now }
+        requires plan { IsPlan dag.now plan.now }
         requires shallow { place.now.depth + 5 * left + 8 < 1000 }
         ensures { (declared : Seq OutputDecl) →
             old.now ≡ dags.dag_made (R.answers self.now.before.now) (calls_before R.answers self.now left) place.now scope.now declared dag.now →
@@ -98,7 +102,7 @@ impl<R: Recorded> Again<'_, R> {
         let Some(new) = self.anew(at, scope, task, left)? else {
             return Ok(None);
         };
-        if !is_unseen(dag, task, &new) {
+        if !is_unseen(dag, plan, task, j as usize, &new) {
             return Ok(None);
         }
         let Some(state) = old.with_begun(&path, new)? else {

@@ -1,7 +1,7 @@
 //! The way down to the place of a fact, and up again.
 
 ghost use Rattle.std.specs.Prelude.{◌≡◌, ◌||◌, not, IsTrue, Some};
-ghost use Rattle.wf_manifest.specs.Valid.{HasRank, HasNoCircle, retry_fits};
+ghost use Rattle.wf_manifest.specs.Valid.{retry_fits};
 ghost use Rattle.wf_manifest.specs.declared.calls.Loop.{Loop};
 ghost use Rattle.wf_manifest.specs.declared.templates.Body.TheVariants as body;
 ghost use Rattle.meaning.specs.Answers.{Sels};
@@ -9,26 +9,29 @@ ghost use Rattle.meaning.specs.Lines.{lines_in};
 ghost use Rattle.meaning.specs.Pods.{pod_made};
 ghost use Rattle.tree_change.specs.Entered.{IsRunning, place_of};
 ghost use Rattle.tree_change.specs.Changes.{IfGiven, TopChanges, CallChanges, OneChanges, TemplateChanges, StepsChange, GroupChanges, DagChanges, LoopChanges};
+ghost use Rattle.dag_plan.specs.Plans.{IsPlan};
 ghost use Rattle.tree_walk.specs.Index.{IsReady};
+ghost use Rattle.tree_walk.specs.Planned.{MayWalk};
 
 use crate::leaf::{
     has_hook, is_running, is_uncached, is_unlocked, item_at, place_of, pod_state, retried_state,
     split,
 };
 use base_types::{Memory, Text};
+use dag_plan::DagPlan;
 use dag_stays::{call_of_task, is_unseen};
 use meaning::Place;
 use recorded::Recorded;
 use tree_state::State;
 use tree_types::Sel;
-use tree_walk::{Positions, find_template};
+use tree_walk::{Named, Positions, find_template};
 use wf_manifest::{Body, Call, Dag, Group, Groups, Manifest, Template};
 
-// A manifest, where its templates stand, and what is recorded of it together with the fact.
-struct Change<'a, R> {
-    manifest: &'a Manifest,
-    positions: &'a Positions,
-    recorded: &'a R,
+// A manifest, where its templates stand, with the plans of its DAGs, and what is recorded of it together with the fact.
+pub(crate) struct Change<'a, R> {
+    pub(crate) manifest: &'a Manifest,
+    pub(crate) positions: &'a Positions,
+    pub(crate) recorded: &'a R,
 }
 
 impl<R> Drop for Change<'_, R> {
@@ -68,13 +71,18 @@ pub fn changed_top<R: Recorded>(
     }
     match find_template(manifest, positions, template) {
         None => Ok(None),
-        Some(template) => change.template(old, template, rest),
+        Some(named) => change.template(old, named, rest),
     }
 }
 
 impl<R: Recorded> Change<'_, R> {
     #[cycle(change)]
-    fn call(&self, old: &State, call: &Call, rest: &[Sel]) -> Result<Option<State>, Memory>
+    pub(crate) fn call(
+        &self,
+        old: &State,
+        call: &Call,
+        rest: &[Sel],
+    ) -> Result<Option<State>, Memory>
         requires { IsReady self.now.manifest.now self.now.positions.now }
         ensures { CallChanges self.now.manifest.now (R.answers self.now.recorded.now) old.now rest.now result call.now }
     {
@@ -124,10 +132,10 @@ impl<R: Recorded> Change<'_, R> {
         if !is_running(old) {
             return Ok(None);
         }
-        let Some(template) = find_template(self.manifest, self.positions, &call.template) else {
+        let Some(named) = find_template(self.manifest, self.positions, &call.template) else {
             return Ok(None);
         };
-        let Some(new) = self.template(old, template, rest)? else {
+        let Some(new) = self.template(old, named, rest)? else {
             return Ok(None);
         };
         if has_hook(call, new.phase()) {
@@ -138,23 +146,18 @@ impl<R: Recorded> Change<'_, R> {
 
     // A template's node that runs.
     #[cycle(change)]
-    fn template(
-        &self,
-        old: &State,
-        template: &Template,
-        rest: &[Sel],
-    ) -> Result<Option<State>, Memory>
+    fn template(&self, old: &State, named: Named<'_>, rest: &[Sel]) -> Result<Option<State>, Memory>
         requires ready { IsReady self.now.manifest.now self.now.positions.now }
-        requires circle { HasNoCircle template.now.body }
-        requires fits { IsTrue (retry_fits template.now.retry) }
+        requires walkable { MayWalk named }
         requires runs { IsRunning old.now }
-        ensures { TemplateChanges self.now.manifest.now (R.answers self.now.recorded.now) old.now rest.now result template.now }
+        ensures { TemplateChanges self.now.manifest.now (R.answers self.now.recorded.now) old.now rest.now result named.entry.template.now }
     {
-        match &template.body {
-            Body::Pod => self.pod(old, template),
-            Body::Steps(groups) => self.steps(old, groups, rest),
-            Body::Dag(dag) => self.dag(old, dag, rest),
-            Body::Suspend(_) => Ok(None),
+        match (&named.template.body, named.plan) {
+            (Body::Pod, _) => self.pod(old, named.template),
+            (Body::Steps(groups), _) => self.steps(old, groups, rest),
+            (Body::Dag(dag), Some(plan)) => self.dag(old, dag, plan, rest),
+            (Body::Dag(_), None) => unreachable!(),
+            (Body::Suspend(_), _) => Ok(None),
         }
     }
 
@@ -238,9 +241,15 @@ impl<R: Recorded> Change<'_, R> {
 
     // A DAG that runs on, and of which no other task sees what one makes: that runs on, or ends where none waits for it.
     #[cycle(change)]
-    fn dag(&self, old: &State, dag: &Dag, rest: &[Sel]) -> Result<Option<State>, Memory>
+    fn dag(
+        &self,
+        old: &State,
+        dag: &Dag,
+        plan: &DagPlan,
+        rest: &[Sel],
+    ) -> Result<Option<State>, Memory>
         requires ready { IsReady self.now.manifest.now self.now.positions.now }
-        requires ranked { HasRank dag.now.tasks }
+        requires plan { IsPlan dag.now plan.now }
         ensures { DagChanges self.now.manifest.now (R.answers self.now.recorded.now) old.now rest.now result dag.now }
     {
         let Some((first, others)) = split(rest) else {
@@ -264,7 +273,7 @@ impl<R: Recorded> Change<'_, R> {
         let Some(new) = self.call(made, &task.call, others)? else {
             return Ok(None);
         };
-        if !is_unseen(dag, task, &new) {
+        if !is_unseen(dag, plan, task, j as usize, &new) {
             return Ok(None);
         }
         let state = old.with_call(at, new)?;
@@ -275,7 +284,7 @@ impl<R: Recorded> Change<'_, R> {
     }
 
     // Whether nothing keeps a task from its beginning, by what it made before.
-    fn has_begun(&self, dag: &Dag, task: &State) -> bool
+    pub(crate) fn has_begun(&self, dag: &Dag, task: &State) -> bool
         ensures { result ≡ (not dag.now.fail_fast || (R.answers self.now.recorded.now).begun task.now.own.node.path.sels) }
     {
         !dag.fail_fast || self.recorded.begun(&task.node().path.sels)

@@ -41,6 +41,7 @@ impl<R: Recorded> Again<'_, R> {
         memoize: &Memoize,
         key: Text,
         dag: &Dag,
+        plan: &DagPlan,
         old: &State,
         j: u32,
         rest: &[Sel],
@@ -49,6 +50,7 @@ impl<R: Recorded> Again<'_, R> {
     ) -> Result<State, TreeRefused>
         requires resumes { Resumes R.answers self.now (place.sels ++ sels.Task j ∷ rest.now) }
         requires walkable { IsWalkableDag dag.now }
+        requires plan { IsPlan dag.now plan.now }
         requires shallow { place.depth + 5 * left + 8 < 1000 }
         requires was { let B = R.answers self.now.before.now in
             old.now ≡ dags.dag_made B (calls_before R.answers self.now left) place scope.now declared.now dag.now }
@@ -57,7 +59,7 @@ impl<R: Recorded> Again<'_, R> {
             (dags.dag_made A (calls_now R.answers self.now left) place scope.now declared.now dag.now)) }
     {
         let at = place.sels.copy()?;
-        let state = self.dag(place, scope, declared, dag, old, j, rest, left, room)?;
+        let state = self.dag(place, scope, declared, dag, plan, old, j, rest, left, room)?;
         Ok(saving(state, at, memoize, key)?)
     }
 
@@ -69,6 +71,7 @@ impl<R: Recorded> Again<'_, R> {
         scope: &Scope,
         declared: &OutputDecls,
         dag: &Dag,
+        plan: &DagPlan,
         old: &State,
         j: u32,
         rest: &[Sel],
@@ -77,6 +80,7 @@ impl<R: Recorded> Again<'_, R> {
     ) -> Result<State, TreeRefused>
         requires resumes { Resumes R.answers self.now (place.sels ++ sels.Task j ∷ rest.now) }
         requires walkable { IsWalkableDag dag.now }
+        requires plan { IsPlan dag.now plan.now }
         requires shallow { place.depth + 5 * left + 8 < 1000 }
         requires was { let B = R.answers self.now.before.now in
             old.now ≡ dags.dag_made B (calls_before R.answers self.now left) place scope.now declared.now dag.now }
@@ -84,11 +88,15 @@ impl<R: Recorded> Again<'_, R> {
             Gives room.old room.new result
             (dags.dag_made A (calls_now R.answers self.now left) place scope.now declared.now dag.now) }
     {
-        if let Some(state) = self.begun_alone(&place, scope, dag, old, j, rest, left)? {
+        if let Some(state) = self.begun_alone(&place, scope, dag, plan, old, j, rest, left)? {
             room.take_all(state.count())?;
             return Ok(state);
         }
-        self.other_dag(place, scope, declared, dag, old, j, rest, left, room)
+        if let Some(state) = self.followed(&place, scope, dag, plan, old, j, rest, left)? {
+            room.take_all(state.count())?;
+            return Ok(state);
+        }
+        self.other_dag(place, scope, declared, dag, plan, old, j, rest, left, room)
     }
 
     // A DAG whose tasks are gone through, where the path goes down into its task `j`.
@@ -99,6 +107,7 @@ impl<R: Recorded> Again<'_, R> {
         scope: &Scope,
         declared: &OutputDecls,
         dag: &Dag,
+        plan: &DagPlan,
         old: &State,
         j: u32,
         rest: &[Sel],
@@ -107,6 +116,7 @@ impl<R: Recorded> Again<'_, R> {
     ) -> Result<State, TreeRefused>
         requires resumes { Resumes R.answers self.now (place.sels ++ sels.Task j ∷ rest.now) }
         requires walkable { IsWalkableDag dag.now }
+        requires plan { IsPlan dag.now plan.now }
         requires shallow { place.depth + 5 * left + 8 < 1000 }
         requires was { let B = R.answers self.now.before.now in
             old.now ≡ dags.dag_made B (calls_before R.answers self.now left) place scope.now declared.now dag.now }
@@ -116,11 +126,10 @@ impl<R: Recorded> Again<'_, R> {
     {
         room.take()?;
         let alloc = self.walk.alloc();
-        let plan = DagPlan::new(alloc, dag)?;
         let before = old.calls()?;
-        let were = Were::new(alloc, dag, &plan, &before, place.sels.len(), j as usize)?;
-        let board = self.tasks(&place, scope, dag, &plan, &were, j, rest, left, room)?;
-        Ok(board.made(alloc, dag, &plan, &place, scope, declared)?)
+        let were = Were::new(alloc, dag, plan, &before, place.sels.len(), j as usize)?;
+        let board = self.tasks(&place, scope, dag, plan, &were, j, rest, left, room)?;
+        Ok(board.made(alloc, dag, plan, &place, scope, declared)?)
     }
 
     // A board of all tasks, gone through in the order of their plan.

@@ -3,6 +3,7 @@
 
 mod again;
 mod beginning;
+mod behind;
 mod change;
 mod dag_again;
 mod front;

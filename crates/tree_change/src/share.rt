@@ -5,15 +5,18 @@ ghost use Rattle.wf_manifest.specs.declared.templates.Body.TheVariants as body;
 ghost use Rattle.tree_types.specs.declared.path.Sel.TheVariants as sels;
 ghost use Rattle.tree_state.specs.Counting.{Gives, TakesAll, count};
 ghost use Rattle.tree_state.specs.Replacing.{call_at};
+ghost use Rattle.dag_plan.specs.Plans.{IsPlan};
+ghost use Rattle.tree_walk.specs.Planned.{MayWalk};
 ghost use Rattle.tree_walk.specs.Walking.{GivesRow};
 
 use crate::leaf::split;
 use base_types::{List, Memory, TryCopy};
+use dag_plan::DagPlan;
 use scopes::Tags;
 use std::alloc::Global;
 use tree_state::{Room, Shared, State, TreeRefused};
 use tree_types::Sel;
-use tree_walk::Group;
+use tree_walk::{Group, Named};
 use wf_manifest::{Body, Dag, Groups, Template};
 
 /// The groups of a steps template, the number of the one that a path goes down into, which exists, and what the path has
@@ -38,17 +41,23 @@ pub fn group_below<'a>(
     Some((groups, i, others))
 }
 
-/// The DAG of a template, the number of the task that a path goes down into, and what the path has behind it.
-pub fn task_below<'a>(template: &'a Template, path: &'a [Sel]) -> Option<(&'a Dag, u32, &'a [Sel])>
-    ensures dag { IfSome result (λ below. template.now.body ≡ body.Dag below.0.now) }
-    ensures path { IfSome result (λ below. path.now ≡ sels.Task below.1 ∷ below.2.now) }
+/// The DAG of a template, its plan, the number of the task that a path goes down into, and what the path has behind it.
+pub fn task_below<'a>(
+    named: Named<'a>,
+    path: &'a [Sel],
+) -> Option<(&'a Dag, &'a DagPlan, u32, &'a [Sel])>
+    requires { MayWalk named }
+    ensures dag { IfSome result (λ below. named.entry.template.now.body ≡ body.Dag below.0.now) }
+    ensures plan { IfSome result (λ below. IsPlan below.0.now below.1.now) }
+    ensures path { IfSome result (λ below. path.now ≡ sels.Task below.2 ∷ below.3.now) }
 {
-    let Body::Dag(dag) = &template.body else {
+    let Body::Dag(dag) = &named.template.body else {
         return None;
     };
+    let plan = named.plan?;
     let (first, others) = split(path)?;
     match first {
-        Sel::Task(j) => Some((dag, j, others)),
+        Sel::Task(j) => Some((dag, plan, j, others)),
         _ => None,
     }
 }

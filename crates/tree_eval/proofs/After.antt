@@ -1,6 +1,5 @@
 -- A workflow that runs on, by what its entrypoint makes.
-use Rattle.std.proofs.Common.{◌≡◌, ◌+◌, ◌≤◌, Bool, true, false, cond, List, [], ◌∷◌, ◌++◌, length, Option, Some, None, refl, sym, ap, ap₂, ◌∙◌, subst, arith}
-use Rattle.std.specs.Prelude.{is_some}
+use Rattle.std.proofs.Common.{◌≡◌, ◌+◌, ◌≤◌, Bool, true, false, cond, [], ◌∷◌, length, Option, Some, None, refl, sym, ap, ap₂, ◌∙◌, arith}
 use Rattle.base_types.specs.Limits.{most_nodes}
 use Rattle.tree_types.specs.declared.path.Sel.TheVariants.{Main}
 use Rattle.tree_types.specs.declared.path.LockId.{LockId}
@@ -9,12 +8,11 @@ use Rattle.tree_types.specs.declared.phase.Phase.TheVariants.{Running}
 use Rattle.tree_types.specs.Places.{sels_eq}
 use Rattle.wf_manifest.specs.declared.manifest.Manifest.{Manifest}
 use Rattle.meaning.specs.Answers.{Sels, Answers}
-use Rattle.meaning.specs.declared.lines.Line.{Line}
-use Rattle.meaning.specs.Lines.{Made, lines_in}
-use Rattle.meaning.specs.Trees.{main_made, exit_if, exit_of, exit_lines, lock_granted, ended_phase, running_phase, granted_phase, started_phase, phase, lines, nodes_in}
+use Rattle.meaning.specs.Lines.{Made}
+use Rattle.meaning.specs.Trees.{main_made, exit_if, exit_of, lock_granted, ended_phase, running_phase, granted_phase, started_phase, phase, lines, nodes_in}
 use Rattle.locality.specs.Answered.{SameBut}
 use Rattle.tree_state.specs.Counting.{count}
-use Rattle.tree_eval.specs.Whole.{Pair, pair, Whole, whole, lines_of}
+use Rattle.tree_eval.specs.Whole.{Pair, pair, Whole, whole}
 use Rattle.tree_eval.specs.Inside.Tops.{count_exit, meant_tops, count_tops}
 use Rattle.tree_eval.specs.Inside.Stages.{Runs}
 use Rattle.tree_eval.proofs.Running.{pair_run, nodes_run}

@@ -75,7 +75,7 @@ pub called-entered-requires : goal.called-entered-requires
 called-entered-requires g t c κs within =
     let m = c.args.self.now.walk.manifest.now in
     let B = g.R.Recorded.answers c.args.self.now.before.now in
-    let was = template_was m B c.args.self.now.walk.globals.now c.args.left (label_of c.args.after) c.args.place c.args.scope.now c.in-Ok.inner c.args.name.now c.args.given.now (option_copied c.args.after.exit) c.in-Some.template.now c.args.old.now c.in-Some.ensures.found c.in-Ok.ensures c.requires.was c.requires.runs in
+    let was = template_was m B c.args.self.now.walk.globals.now c.args.left (label_of c.args.after) c.args.place c.args.scope.now c.in-Ok.inner c.args.name.now c.args.given.now (option_copied c.args.after.exit) c.in-Some.named.template.now c.args.old.now c.in-Some.ensures.found c.in-Ok.ensures c.requires.was c.requires.runs in
     (omega arith, (within, (c.requires.resumes, (c.in-Some.ensures.walkable, (c.requires.shallow, (c.requires.runs, was))))))
 
 pub called-returns-in-Ok : goal.called-returns-in-Ok
@@ -83,7 +83,7 @@ called-returns-in-Ok g t c =
     let m = c.args.self.now.walk.manifest.now in
     let A = g.R.Recorded.answers c.args.self.now.walk.recorded.now in
     let scopes = c.args.self.now.walk.globals.now in
-    called_enters m A scopes c.args.left c.args.place c.args.scope.now c.in-Ok.inner c.args.name.now c.args.given.now (hooked m A scopes (calls m A scopes c.args.left) (label_of c.args.after) c.args.place c.args.scope.now (option_copied c.args.after.exit)) c.in-Some.template.now c.args.room.now c.entered.new.room c.entered.result c.in-Some.ensures.found c.in-Ok.ensures c.entered.ensures
+    called_enters m A scopes c.args.left c.args.place c.args.scope.now c.in-Ok.inner c.args.name.now c.args.given.now (hooked m A scopes (calls m A scopes c.args.left) (label_of c.args.after) c.args.place c.args.scope.now (option_copied c.args.after.exit)) c.in-Some.named.template.now c.args.room.now c.entered.new.room c.entered.result c.in-Some.ensures.found c.in-Ok.ensures c.entered.ensures
 
 pub entered-returns-in_err-state : goal.entered-returns-in_err-state
 entered-returns-in_err-state g t c =
@@ -91,7 +91,7 @@ entered-returns-in_err-state g t c =
     let A = g.R.Recorded.answers c.args.self.now.walk.recorded.now in
     let scopes = c.args.self.now.walk.globals.now in
     let called = calls m A scopes c.args.left in
-    let made = template_made A called c.args.place c.args.inner.now c.args.template.now in
+    let made = template_made A called c.args.place c.args.inner.now c.args.named.template.now in
     let whole = hooked m A scopes called (label_of c.args.after) c.args.place c.args.scope.now (option_copied c.args.after.exit) made in
     by_err (λ r. Gives c.args.room.now c.template-2.new.room r whole) c.from_residual-in_err-state.result c.in_err-state.field-0.0 c.from_residual-in_err-state.ensures.1
     (part_fails c.args.room.now c.template-2.new.room made whole c.in_err-state.field-0.0 (hooked_longer m A scopes c.args.left (label_of c.args.after) c.args.place c.args.scope.now (option_copied c.args.after.exit) made) c.in_err-state.ensures)
@@ -102,7 +102,7 @@ template-returns-in_default-memoize g t c =
     let A = g.R.Recorded.answers c.args.self.now.walk.recorded.now in
     let B = g.R.Recorded.answers c.args.self.now.before.now in
     let scopes = c.args.self.now.walk.globals.now in
-    let u = c.args.template.now in
+    let u = c.args.named.template.now in
     let gs = c.in-Some.groups.now in
     let changed = c.args.place.sels ++ c.args.rest.now in
     let apart = apart_on_way A B changed c.requires.resumes.same c.args.place.sels c.in-Some.others.now (Group c.in-Some.j) (ap (λ (r : Sels). c.args.place.sels ++ r) c.in-Some.ensures.path) in
@@ -115,7 +115,7 @@ template-returns-in-Ok g t c =
     let A = g.R.Recorded.answers c.args.self.now.walk.recorded.now in
     let B = g.R.Recorded.answers c.args.self.now.before.now in
     let scopes = c.args.self.now.walk.globals.now in
-    let u = c.args.template.now in
+    let u = c.args.named.template.now in
     let gs = c.in-Some.groups.now in
     let changed = c.args.place.sels ++ c.args.rest.now in
     let apart = apart_on_way A B changed c.requires.resumes.same c.args.place.sels c.in-Some.others.now (Group c.in-Some.j) (ap (λ (r : Sels). c.args.place.sels ++ r) c.in-Some.ensures.path) in
@@ -465,10 +465,10 @@ other-dag-requires g t c κs within =
     let A = g.R.Recorded.answers c.args.self.now.walk.recorded.now in
     let B = g.R.Recorded.answers c.args.self.now.before.now in
     let scopes = c.args.self.now.walk.globals.now in
-    let u = c.args.template.now in
+    let u = c.args.named.template.now in
     let same = subst (λ (r : Sels). SameBut A B (c.args.place.sels ++ r)) c.in-Some.ensures.path c.requires.resumes.same in
     let was = dag_were m A B (c.args.place.sels ++ c.args.rest.now) c.requires.resumes.same scopes c.args.left c.args.place c.args.scope.now u c.in-Some.dag.now c.args.old.now c.requires.was c.requires.runs c.in-Some.ensures.dag in
-    (omega arith, (within, (record { ready = c.requires.resumes.ready; same = same }, (walkable_dag u c.in-Some.dag.now c.requires.walkable c.in-Some.ensures.dag, (c.requires.shallow, was)))))
+    (omega arith, (within, (record { ready = c.requires.resumes.ready; same = same }, (walkable_dag u c.in-Some.dag.now c.requires.walkable.walkable c.in-Some.ensures.dag, (c.in-Some.ensures.plan, (c.requires.shallow, was))))))
 
 pub other-missed_dag-requires : goal.other-missed_dag-requires
 other-missed_dag-requires g t c κs within =
@@ -476,10 +476,10 @@ other-missed_dag-requires g t c κs within =
     let A = g.R.Recorded.answers c.args.self.now.walk.recorded.now in
     let B = g.R.Recorded.answers c.args.self.now.before.now in
     let scopes = c.args.self.now.walk.globals.now in
-    let u = c.args.template.now in
+    let u = c.args.named.template.now in
     let same = subst (λ (r : Sels). SameBut A B (c.args.place.sels ++ r)) c.in-Some.ensures.path c.requires.resumes.same in
     let was = dag_were m A B (c.args.place.sels ++ c.args.rest.now) c.requires.resumes.same scopes c.args.left c.args.place c.args.scope.now u c.in-Some.dag.now c.args.old.now c.requires.was c.requires.runs c.in-Some.ensures.dag in
-    (omega arith, (within, (record { ready = c.requires.resumes.ready; same = same }, (walkable_dag u c.in-Some.dag.now c.requires.walkable c.in-Some.ensures.dag, (c.requires.shallow, was)))))
+    (omega arith, (within, (record { ready = c.requires.resumes.ready; same = same }, (walkable_dag u c.in-Some.dag.now c.requires.walkable.walkable c.in-Some.ensures.dag, (c.in-Some.ensures.plan, (c.requires.shallow, was))))))
 
 pub other-returns-in_default-memoize : goal.other-returns-in_default-memoize
 other-returns-in_default-memoize g t c =
@@ -488,7 +488,7 @@ other-returns-in_default-memoize g t c =
     let B = g.R.Recorded.answers c.args.self.now.before.now in
     let scopes = c.args.self.now.walk.globals.now in
     let called = calls m A scopes c.args.left in
-    let u = c.args.template.now in
+    let u = c.args.named.template.now in
     let changed = c.args.place.sels ++ c.args.rest.now in
     let apart = apart_on_way A B changed c.requires.resumes.same c.args.place.sels c.in-Some.others.now (task_sel c.in-Some.j) (ap (λ (r : Sels). c.args.place.sels ++ r) c.in-Some.ensures.path) in
     let made = dag_template_again m A B changed c.requires.resumes.same scopes c.args.left c.args.place c.args.scope.now u c.in-Some.dag.now c.args.old.now c.requires.was c.requires.runs c.in-Some.ensures.dag c.in_default-memoize.is apart in
@@ -501,7 +501,7 @@ other-returns-in-Ok g t c =
     let B = g.R.Recorded.answers c.args.self.now.before.now in
     let scopes = c.args.self.now.walk.globals.now in
     let called = calls m A scopes c.args.left in
-    let u = c.args.template.now in
+    let u = c.args.named.template.now in
     let changed = c.args.place.sels ++ c.args.rest.now in
     let apart = apart_on_way A B changed c.requires.resumes.same c.args.place.sels c.in-Some.others.now (task_sel c.in-Some.j) (ap (λ (r : Sels). c.args.place.sels ++ r) c.in-Some.ensures.path) in
     let made = dag_template_saved m A B changed c.requires.resumes.same scopes c.args.left c.args.place c.args.scope.now u c.in-Some.dag.now c.in-Some-memoize.memoize c.in-Ok.key c.args.old.now c.requires.was c.requires.runs c.in-Some.ensures.dag c.in-Some-memoize.is c.in-Ok.ensures apart in
@@ -529,7 +529,7 @@ missed_dag-returns g t c =
     )
 
 pub dag-other_dag-requires : goal.dag-other_dag-requires
-dag-other_dag-requires g t c κs within = (omega arith, (within, (c.requires.resumes, (c.requires.walkable, (c.requires.shallow, c.requires.was)))))
+dag-other_dag-requires g t c κs within = (omega arith, (within, (c.requires.resumes, (c.requires.walkable, (c.requires.plan, (c.requires.shallow, c.requires.was))))))
 
 pub dag-returns-in_err-take_all : goal.dag-returns-in_err-take_all
 dag-returns-in_err-take_all g t c =
@@ -550,13 +550,32 @@ dag-returns-in-Some g t c =
     let made : c.in-Some.state ≡ whole = given_some c.in_ok-state.field-0 c.in-Some.state (λ y. y ≡ whole) c.in-Some.is (c.in_ok-state.ensures c.args.declared.now c.requires.was) in
     (made, omega (arith, c.in_ok-take_all.ensures.takes, c.count.ensures.all, ap count made))
 
+pub dag-returns-in_err-take_all-2 : goal.dag-returns-in_err-take_all-2
+dag-returns-in_err-take_all-2 g t c =
+    let m = c.args.self.now.walk.manifest.now in
+    let A = g.R.Recorded.answers c.args.self.now.walk.recorded.now in
+    let scopes = c.args.self.now.walk.globals.now in
+    let whole = dag_made A (calls m A scopes c.args.left) c.args.place c.args.scope.now c.args.declared.now c.args.dag.now in
+    let made : c.in-Some-2.state ≡ whole = given_some c.in_ok-state-2.field-0 c.in-Some-2.state (λ y. y ≡ whole) c.in-Some-2.is (c.in_ok-state-2.ensures c.args.declared.now c.requires.was) in
+    by_err (λ r. Gives c.args.room.now c.take_all-in-Some-2.new.self r whole) c.from_residual-in_err-take_all-2.result c.in_err-take_all-2.field-0.0 c.from_residual-in_err-take_all-2.ensures.1
+    (too_little whole c.count-in-Some-2.result c.args.room.now c.take_all-in-Some-2.new.self c.in_err-take_all-2.field-0.0 (c.count-in-Some-2.ensures.all ∙ ap count made) c.in_err-take_all-2.ensures.takes)
+
+pub dag-returns-in-Some-2 : goal.dag-returns-in-Some-2
+dag-returns-in-Some-2 g t c =
+    let m = c.args.self.now.walk.manifest.now in
+    let A = g.R.Recorded.answers c.args.self.now.walk.recorded.now in
+    let scopes = c.args.self.now.walk.globals.now in
+    let whole = dag_made A (calls m A scopes c.args.left) c.args.place c.args.scope.now c.args.declared.now c.args.dag.now in
+    let made : c.in-Some-2.state ≡ whole = given_some c.in_ok-state-2.field-0 c.in-Some-2.state (λ y. y ≡ whole) c.in-Some-2.is (c.in_ok-state-2.ensures c.args.declared.now c.requires.was) in
+    (made, omega (arith, c.in_ok-take_all-2.ensures.takes, c.count-in-Some-2.ensures.all, ap count made))
+
 pub other_dag-tasks-requires : goal.other_dag-tasks-requires
 other_dag-tasks-requires g t c κs within =
     let m = c.args.self.now.walk.manifest.now in
     let B = g.R.Recorded.answers c.args.self.now.before.now in
     let scopes = c.args.self.now.walk.globals.now in
     let were = c.in_ok-were.ensures m B scopes c.args.left c.args.place c.args.scope.now c.args.declared.now (c.in_ok-before.ensures ∙ ap (λ (b : Made). row_in b.parts) c.requires.was) c.len.ensures in
-    (omega arith, (within, (c.requires.resumes, (c.requires.walkable, (c.in_ok-plan.ensures, (c.requires.shallow, were))))))
+    (omega arith, (within, (c.requires.resumes, (c.requires.walkable, (c.requires.plan, (c.requires.shallow, were))))))
 
 pub other_dag-returns-in_err-board : goal.other_dag-returns-in_err-board
 other_dag-returns-in_err-board g t c =
@@ -566,7 +585,7 @@ other_dag-returns-in_err-board g t c =
     let called = calls m A scopes c.args.left in
     let whole = dag_made A called c.args.place c.args.scope.now c.args.declared.now c.args.dag.now in
     by_err (λ r. Gives c.args.room.now c.tasks.new.room r whole) c.from_residual-in_err-board.result c.in_err-board.field-0.0 c.from_residual-in_err-board.ensures.1
-    (dag_fails A called c.args.place c.args.scope.now c.args.dag.now c.args.declared.now c.in_ok-plan.plan c.args.room.now c.take.new.self c.tasks.new.room c.in_err-board.field-0.0 c.in_ok-plan.ensures c.in_ok-take.ensures.takes c.in_err-board.ensures)
+    (dag_fails A called c.args.place c.args.scope.now c.args.dag.now c.args.declared.now c.args.plan.now c.args.room.now c.take.new.self c.tasks.new.room c.in_err-board.field-0.0 c.requires.plan c.in_ok-take.ensures.takes c.in_err-board.ensures)
 
 pub other_dag-made-requires-clause-named : goal.other_dag-made-requires-clause-named
 other_dag-made-requires-clause-named g t c = named_at c.args.dag.now.tasks c.requires.walkable.named
@@ -577,7 +596,7 @@ other_dag-returns g t c =
     let A = g.R.Recorded.answers c.args.self.now.walk.recorded.now in
     let scopes = c.args.self.now.walk.globals.now in
     let called = calls m A scopes c.args.left in
-    dag_done A called c.args.place c.args.scope.now c.args.dag.now c.args.declared.now c.in_ok-plan.plan c.in_ok-board.board c.args.room.now c.take.new.self c.tasks.new.room c.in_ok-made.field-0 c.in_ok-plan.ensures c.in_ok-take.ensures.takes c.in_ok-board.ensures c.in_ok-made.ensures
+    dag_done A called c.args.place c.args.scope.now c.args.dag.now c.args.declared.now c.args.plan.now c.in_ok-board.board c.args.room.now c.take.new.self c.tasks.new.room c.in_ok-made.field-0 c.requires.plan c.in_ok-take.ensures.takes c.in_ok-board.ensures c.in_ok-made.ensures
 
 pub task-returns-in_err-take-in-Denied : goal.task-returns-in_err-take-in-Denied
 task-returns-in_err-take-in-Denied g t c =

@@ -17,7 +17,7 @@ use Rattle.dag_stays.specs.Unseen.{IsUnseen}
 use Rattle.dag_stays.proofs.RunsOn.{dag_was_running, dag_runs_on}
 use Rattle.tree_change.specs.Entered.{IsRunning}
 use Rattle.tree_change.proofs.Changing.{steps_were, group_changes, steps_change, steps_template_changes, dag_were, dag_template_changes, one_changes, call_changes, loop_changes}
-use Rattle.tree_change.proofs.Given.{given_by, given_some, begins, further, some_same, no_circle_found, ranked_dag, fits_found}
+use Rattle.tree_change.proofs.Given.{given_by, given_some, begins, further, some_same}
 use Rattle.tree_change.proofs.change.Change.+change.Goals as goal
 
 pub call-returns-in_default : goal.call-returns-in_default
@@ -42,46 +42,43 @@ one-returns g t c B changed g' left prefix place scope same way is =
     let z = c.in-Some-2.new in
     sym (one_changes m A B changed same g' left prefix place scope call c.args.old.now z is (c.if-not-is_running.ensures refl)
     (λ u inner found.
-    let same_template : c.in-Some.template.now ≡ u = some_same c.in-Some.template.now u (template_named m call.template) (sym c.in-Some.ensures) found in
+    let same_template : c.in-Some.named.template.now ≡ u = some_same c.in-Some.named.template.now u (template_named m call.template) (sym c.in-Some.ensures.found) found in
     subst (λ (v : Template). c.args.old.now ≡ template_made B (calls m B g' left) place inner v → template_made A (calls m A g' left) place inner v ≡ z) same_template
-    (λ was. sym (given_some c.in_ok-new.field-0 z (λ y. y ≡ template_made A (calls m A g' left) place inner c.in-Some.template.now) c.in-Some-2.is (c.in_ok-new.ensures B changed g' left place inner same way was))))
+    (λ was. sym (given_some c.in_ok-new.field-0 z (λ y. y ≡ template_made A (calls m A g' left) place inner c.in-Some.named.template.now) c.in-Some-2.is (c.in_ok-new.ensures B changed g' left place inner same way was))))
     (ap (λ (p : Phase). is_some call.exit && hook_runs p) (sym c.phase.ensures) ∙ sym c.has_hook.ensures ∙ c.if-has_hook.false))
 
-pub template-returns-in-Pod : goal.template-returns-in-Pod
-template-returns-in-Pod g t c B changed g' left place inner same way is = c.pod.ensures c.args.rest.now B changed g' left place inner same way is
+pub template-returns-in-Pod-default : goal.template-returns-in-Pod-default
+template-returns-in-Pod-default g t c B changed g' left place inner same way is = c.pod.ensures c.args.rest.now B changed g' left place inner same way is
 
-pub template-returns-in-Steps : goal.template-returns-in-Steps
-template-returns-in-Steps g t c B changed g' left place inner same way is =
+pub template-returns-in-Steps-default : goal.template-returns-in-Steps-default
+template-returns-in-Steps-default g t c B changed g' left place inner same way is =
     let m = c.args.self.now.manifest.now in
     let A = g.R.Recorded.answers c.args.self.now.recorded.now in
-    let u = c.args.template.now in
-    let gs = c.in-Steps.groups in
+    let u = c.args.named.template.now in
+    let gs = c.in-Steps-default.groups in
     let old = c.args.old.now in
     let runs = c.requires.runs in
-    let were : old ≡ steps_made (calls m B g' left) place inner u.outputs gs = steps_were m A B changed same g' left place inner u gs old is runs c.in-Steps.is in
+    let were : old ≡ steps_made (calls m B g' left) place inner u.outputs gs = steps_were m A B changed same g' left place inner u gs old is runs c.in-Steps-default.is-0 in
     given_by c.steps.result (λ (i : Unit {0}) z. (z ≡ steps_made (calls m A g' left) place inner u.outputs gs) × IsRunning z × (sels_eq place.sels changed ≡ false)) (λ z. z ≡ template_made A (calls m A g' left) place inner u)
     (λ i. c.steps.ensures B changed g' left place inner u.outputs same way were runs)
-    (λ z new. sym (steps_template_changes m A B changed same g' left place inner u gs old z is runs c.in-Steps.is (new tt).2 (λ w. ((new tt).0, (new tt).1))))
+    (λ z new. sym (steps_template_changes m A B changed same g' left place inner u gs old z is runs c.in-Steps-default.is-0 (new tt).2 (λ w. ((new tt).0, (new tt).1))))
 
 pub one-template-requires : goal.one-template-requires
 one-template-requires g t c κs within =
-    (omega arith, (within, (c.requires, (no_circle_found c.args.self.now.manifest.now c.args.call.now.template c.in-Some.template.now c.requires.valid c.in-Some.ensures, (fits_found c.args.self.now.manifest.now c.args.call.now.template c.in-Some.template.now c.requires.valid c.in-Some.ensures, c.if-not-is_running.ensures refl)))))
+    (omega arith, (within, (c.requires, (c.in-Some.ensures.walkable, c.if-not-is_running.ensures refl))))
 
-pub template-dag-requires : goal.template-dag-requires
-template-dag-requires g t c κs within = (omega arith, (within, (c.requires.ready, ranked_dag c.args.template.now c.in-Dag.dag c.requires.circle c.in-Dag.is)))
-
-pub template-returns-in-Dag : goal.template-returns-in-Dag
-template-returns-in-Dag g t c B changed g' left place inner same way is =
+pub template-returns-in-Dag-Some : goal.template-returns-in-Dag-Some
+template-returns-in-Dag-Some g t c B changed g' left place inner same way is =
     let m = c.args.self.now.manifest.now in
     let A = g.R.Recorded.answers c.args.self.now.recorded.now in
-    let u = c.args.template.now in
-    let d = c.in-Dag.dag in
+    let u = c.args.named.template.now in
+    let d = c.in-Dag-Some.dag in
     let old = c.args.old.now in
     let runs = c.requires.runs in
-    let were : old ≡ dag_made B (calls m B g' left) place inner u.outputs d = dag_were m A B changed same g' left place inner u d old is runs c.in-Dag.is in
+    let were : old ≡ dag_made B (calls m B g' left) place inner u.outputs d = dag_were m A B changed same g' left place inner u d old is runs c.in-Dag-Some.is-0 in
     given_by c.dag.result (λ (i : Unit {0}) z. (z ≡ dag_made A (calls m A g' left) place inner u.outputs d) × IsRunning z × (sels_eq place.sels changed ≡ false)) (λ z. z ≡ template_made A (calls m A g' left) place inner u)
     (λ i. c.dag.ensures B changed g' left place inner u.outputs same way were)
-    (λ z new. sym (dag_template_changes m A B changed same g' left place inner u d old z is runs c.in-Dag.is (new tt).2 (λ w. ((new tt).0, (new tt).1))))
+    (λ z new. sym (dag_template_changes m A B changed same g' left place inner u d old z is runs c.in-Dag-Some.is-0 (new tt).2 (λ w. ((new tt).0, (new tt).1))))
 
 pub dag-returns : goal.dag-returns
 dag-returns g t c B changed g' left place scope declared same way is =
@@ -100,12 +97,12 @@ dag-returns g t c B changed g' left place scope declared same way is =
     let unseen : IsUnseen d task z = c.if-not-is_unseen.ensures.0 refl in
     let goes_on = sym (ap (λ (b : Made). all_finished (row_in b.parts)) c.in_ok-state.ensures) ∙ sym c.all_finished.ensures ∙ c.if-all_finished.false in (
       c.in_ok-state.ensures
-          ∙ sym (dag_runs_on m A B changed same g' left rounds_settle place scope declared d c.requires.ranked at j others old one z task here is (sym c.in-Some-item_at.ensures)
+          ∙ sym (dag_runs_on m A B changed same g' left rounds_settle place scope declared d c.requires.plan.ranked at j others old one z task here is (sym c.in-Some-item_at.ensures)
           c.in-Some-call_of_task.ensures.call c.in-Some-call_of_task.ensures.task off unseen goes_on (sym c.has_begun.ensures ∙ c.if-not-has_begun.false)
           (λ s was. sym (given_some c.in_ok-new.field-0 z (λ y. y ≡ calls m A g' left (codes "tasks.") (task_place place j task) (s ++ scope) task.call) c.in-Some-2.is
           (c.in_ok-new.ensures B changed g' left (codes "tasks.") (task_place place j task) (s ++ scope) same (further changed place.sels (task_sel j) others here) was)))),
       ap (λ (b : Made). b.own.node.phase) c.in_ok-state.ensures
-          ∙ dag_was_running m A B changed same g' left rounds_settle place scope declared d c.requires.ranked at j old one is c.in-Some-call_of_task.ensures.call c.in-Some-call_of_task.ensures.task off,
+          ∙ dag_was_running m A B changed same g' left rounds_settle place scope declared d c.requires.plan.ranked at j old one is c.in-Some-call_of_task.ensures.call c.in-Some-call_of_task.ensures.task off,
       apart_on_way A B changed same place.sels others (task_sel j) here,
     )
 
