@@ -5,6 +5,7 @@ use Rattle.std.proofs.lemmas.Option.{slice_get_within, get_or_from_slice_get}
 use Rattle.std.specs.Prelude.{slice_get, bytes_eq, option_map, get_or}
 use Rattle.std.specs.List.{All, list_any, filter, AllByRecursion}
 use Rattle.std.proofs.lemmas.List.Elements.{All-weaker}
+use Rattle.tree_types.specs.declared.phase.Phase.{Phase}
 use Rattle.wf_manifest.specs.declared.calls.Task.{Task}
 use Rattle.wf_manifest.specs.declared.calls.Dag.{Dag}
 use Rattle.scopes.specs.Substitution.{Scope}
@@ -19,14 +20,14 @@ use Rattle.dag_plan.specs.Order.{first}
 use Rattle.dag_plan.specs.Plans.{AreAt, IsPlan}
 use Rattle.dag_template.specs.declared.stands.Stand.{Stand}
 use Rattle.dag_template.specs.declared.judging.Verdict.{Verdict}
-use Rattle.dag_template.specs.declared.judging.Verdict.TheVariants.{Waits as waits_for, Holds as holds}
+use Rattle.dag_template.specs.declared.judging.Verdict.TheVariants.{Waits as waits_for, Holds as holds, Denied as denied}
 use Rattle.dag_template.specs.Stands.{Sight, sight, verdict}
 use Rattle.dag_template.specs.Verdicts.{stands_by}
 use Rattle.dag_template.proofs.Seeing.{by_verdict}
 use Rattle.dag_template.proofs.Places.{places_low}
 use Rattle.dag_template.proofs.VerdictsAlike.{verdicts_alike}
 use Rattle.dag_board.specs.Boards.{stood}
-use Rattle.dag_stays.specs.declared.following.Following.TheVariants.{Waits, Freed}
+use Rattle.dag_stays.specs.declared.following.Following.TheVariants.{Waits, Freed, Omitted}
 use Rattle.dag_stays.specs.Following.{seen, is_spared, IsGood, TellsFollowing}
 use Rattle.dag_stays.specs.Over.{StandsOver}
 
@@ -108,6 +109,22 @@ module _ (d : Dag) (k : ℕ) (b : Made) (row : List ℕ) (found : List Stand) (v
   told_freed is doomed A called place scope ss t over are there =
       stands_is doomed A called place scope ss t over are there holds
       ((verdicts_alike d.tasks (of doomed A called place scope ss t over are there) (by doomed A called place scope ss t over are there) t (alike doomed A called place scope ss t over are there)).0 (sym (told doomed A called place scope ss t over are there) ∙ is))
+
+  -- by either it is Omitted, though with another branch phase
+  denied_so : (of by : Sight) (t : Task) (branch : Phase) → ((n : List ℕ) → ((of n).over ≡ (by n).over) × ((of n).result ≡ (by n).result)) → verdict d.tasks of t ≡ denied branch → (w : Verdict) → verdict d.tasks by t ≡ w → (b : Phase) × (w ≡ denied b)
+  denied_so of by t branch same is waits_for by_is =
+      let both : waits_for ≡ denied branch = sym ((verdicts_alike d.tasks by of t (λ n. (sym (same n).0, sym (same n).1))).1 by_is) ∙ is in
+      absurd (cc both)
+  denied_so of by t branch same is holds by_is =
+      let both : holds ≡ denied branch = sym ((verdicts_alike d.tasks by of t (λ n. (sym (same n).0, sym (same n).1))).0 by_is) ∙ is in
+      absurd (cc both)
+  denied_so of by t branch same is (denied b) by_is = (b, refl)
+
+  pub told_omitted : (branch : Phase) → v ≡ denied branch → TellsFollowing d k b Omitted
+  told_omitted branch is doomed A called place scope ss t over are there =
+      let w = verdict d.tasks (by doomed A called place scope ss t over are there) t in
+      let (other, so) = denied_so (of doomed A called place scope ss t over are there) (by doomed A called place scope ss t over are there) t branch (alike doomed A called place scope ss t over are there) (sym (told doomed A called place scope ss t over are there) ∙ is) w refl in
+      (other, stands_is doomed A called place scope ss t over are there (denied other) so)
 
 -- ---- whether the DAG is doomed
 

@@ -9,9 +9,10 @@ use Rattle.meaning.specs.Answers.{Sels}
 use Rattle.meaning.specs.Lines.{Made, Parts, nothing, call, may_begin, asks}
 use Rattle.meaning.specs.Dags.{Standing, waiting, ready, exists, Standings, task_place, task_then, tasks_below}
 use Rattle.dag_board.specs.Boards.{stood, made_of}
+use Rattle.tree_state.specs.Counting.{count_below}
 use Rattle.tree_state.specs.Replacing.{call_at}
 use Rattle.dag_stays.specs.Over.{IsOwn, AreOwn, StandsOver}
-use Rattle.dag_stays.specs.ByTask.{task_is, task_before, is_of_task, is_in_front}
+use Rattle.dag_stays.specs.ByTask.{task_is, task_before, is_of_task, is_in_front, IsBound}
 use Rattle.dag_stays.proofs.Found.{last_sel}
 use Rattle.dag_stays.proofs.RunsOn.{found_at}
 
@@ -129,6 +130,18 @@ none_behind (call o inner rest) (suc high) zero one off is = omega arith
 none_behind (call o inner rest) (suc high) (suc q) one off is = omega (arith, none_behind rest high q one off is)
 none_behind (may_begin p rest) high q one off is = none_behind rest high q one off is
 none_behind (asks w rest) high q one off is = none_behind rest high q one off is
+
+-- no more calls than nodes
+pub no_more : (parts : Parts) (q : ℕ) → count_below parts ≤ q → call_at parts q ≡ None
+no_more nothing q le = refl
+no_more (call o inner rest) zero le = absurd (omega (arith, le))
+no_more (call o inner rest) (suc q) le = no_more rest q (omega (arith, le))
+no_more (may_begin p rest) q le = no_more rest q le
+no_more (asks w rest) q le = no_more rest q le
+
+pub ends_bound : (parts : Parts) (depth j high : ℕ) → IsBound parts j high → EndsBefore parts depth j high
+ends_bound parts depth j high (inl last) = inl last
+ends_bound parts depth j high (inr none) = inr (inl none)
 
 module _ (doomed : Bool) (place : Place) (ss : Standings) (b : Made) (over : StandsOver doomed place ss b) (j : ℕ) where
   abbrev depth : ℕ

@@ -1,8 +1,9 @@
 -- What the tasks of a DAG made, found among the calls below its node.
-use Rattle.std.specs.Prelude.{ℕ, zero, suc, ◌==◌, nat_lt, List, [], ◌∷◌, Bool, false, Option, Some, None, if◌then◌else◌, slice_get}
+use Rattle.std.specs.Prelude.{◌≡◌, ◌⊎◌, ℕ, zero, suc, ◌==◌, nat_lt, List, [], ◌∷◌, Bool, false, Option, Some, None, if◌then◌else◌, slice_get}
 use Rattle.tree_types.specs.declared.path.Sel.{Sel}
 use Rattle.tree_types.specs.declared.path.Sel.TheVariants.{Task as task_sel}
-use Rattle.meaning.specs.Lines.{Made}
+use Rattle.meaning.specs.Lines.{Made, Parts}
+use Rattle.tree_state.specs.Replacing.{call_at}
 
 abbrev pub task_is : ℕ → Option Sel → Bool
 task_is i (Some (task_sel n)) = n == i
@@ -19,6 +20,10 @@ task_before i _ = false
 -- the node stands at a task in front of task i
 abbrev pub is_in_front : ℕ → ℕ → Made → Bool
 is_in_front depth i m = task_before i (slice_get m.own.node.path.sels depth)
+
+-- no call of a task up to this one stands behind so many
+abbrev pub IsBound : Parts → ℕ → ℕ → Type 0
+IsBound parts j n = (n ≡ suc j) ⊎ (call_at parts n ≡ None)
 
 abbrev pub task_if : ℕ → ℕ → Option Made → Option Made
 task_if depth i None = None

@@ -1,6 +1,6 @@
 //! What becomes of the tasks of a DAG that wait for one that ended, by the calls that stand below the DAG's node.
 
-ghost use Rattle.std.specs.Prelude.{◌≡◌, ◌<◌, ◌^◌, Bool, length, map, IfOk, IfSome, IsTrue, false};
+ghost use Rattle.std.specs.Prelude.{◌≡◌, ◌<◌, ◌^◌, Bool, length, map, IfOk, IsTrue, false};
 ghost use Rattle.std.specs.List.{All, AllByRecursion};
 ghost use Rattle.meaning.specs.declared.lines.Place.{Place};
 ghost use Rattle.meaning.specs.Dags as dags;
@@ -28,6 +28,8 @@ pub enum Following {
     Waits,
     /// Nothing holds it back.
     Freed,
+    /// It is Omitted, with a branch phase that no call below the DAG tells.
+    Omitted,
 }
 
 // How the task at a position stands as others see it, but for its branch phase, which no call below the node tells.
@@ -55,23 +57,22 @@ fn stands_below(alloc: Global, state: &State, places: &[usize]) -> Result<List<S
     Ok(found)
 }
 
-/// What becomes of the task at position `k`, where the DAG's node stands over what its tasks made. None where it is Omitted, as
-/// no call below the node tells its branch phase.
+/// What becomes of the task at position `k`, where the DAG's node stands over what its tasks made.
 pub fn what_becomes(
     alloc: Global,
     dag: &Dag,
     plan: &DagPlan,
     state: &State,
     k: usize,
-) -> Result<Option<Following>, Memory>
+) -> Result<Following, Memory>
     requires plan { IsPlan dag.now plan.now }
     requires place { k < length dag.now.tasks }
     requires few { length dag.now.tasks < 2 ^ 32 }
-    ensures { IfOk result (λ found. IfSome found (λ becomes. spec.TellsFollowing dag.now k state.now becomes)) }
+    ensures { IfOk result (λ becomes. spec.TellsFollowing dag.now k state.now becomes) }
 {
     rounds_settle();
     if !*plan.meant.get(k) {
-        return Ok(Some(Following::Waits));
+        return Ok(Following::Waits);
     }
     let places = plan.rows.get(k).as_slice();
     let found = stands_below(alloc, state, places)?;
@@ -83,9 +84,9 @@ pub fn what_becomes(
         places,
     )?;
     match verdict {
-        Verdict::Waits => Ok(Some(Following::Waits)),
-        Verdict::Holds => Ok(Some(Following::Freed)),
-        Verdict::Denied(_) => Ok(None),
+        Verdict::Waits => Ok(Following::Waits),
+        Verdict::Holds => Ok(Following::Freed),
+        Verdict::Denied(_) => Ok(Following::Omitted),
     }
 }
 

@@ -1,6 +1,6 @@
 //! What the tasks of a DAG made, found among the calls below its node.
 
-ghost use Rattle.std.specs.Prelude.{◌≡◌, Bool, true, length, slice_get, Some, IfOk, IfSome, option_map};
+ghost use Rattle.std.specs.Prelude.{◌≡◌, ◌≤◌, ◌+◌, Bool, true, length, slice_get, Some, IfOk, IfSome, option_map};
 ghost use Rattle.meaning.specs.declared.lines.Place.{Place};
 ghost use Rattle.meaning.specs.Dags.{Standings};
 ghost use Rattle.dag_board.specs.Boards.{stood, made_of};
@@ -33,8 +33,17 @@ fn is_in_front(call: &State, depth: usize, i: usize) -> bool
     }
 }
 
+// How many calls may stand up to the task at a position: one for it and for each task before it, but no more than there are nodes.
+fn most_up_to(dag: &State, j: usize) -> usize
+    ensures low { result ≤ j + 1 }
+    ensures bound { spec.IsBound dag.now.parts j result }
+{
+    let nodes = dag.count() - 1;
+    if nodes <= j { nodes } else { j + 1 }
+}
+
 /// What the task at position `j` of a DAG made, and where it stands among the calls below the DAG's node. As the calls stand in
-/// the order of their tasks, it is looked for at its own position, where it stands once all tasks before it exist, and then by halves.
+/// the order of their tasks, it is looked for where it stands once all tasks before it exist, or the last of them, and then by halves.
 pub fn call_of_task(dag: &State, j: u32) -> Option<(usize, &State)>
     ensures call { IfSome result (λ found. call_at dag.now.parts found.0 ≡ Some found.1.now) }
     ensures task { let depth = length dag.now.own.node.path.sels in
@@ -43,13 +52,18 @@ pub fn call_of_task(dag: &State, j: u32) -> Option<(usize, &State)>
         option_map (λ found. found.1.now) result ≡ made_of (stood ss j) }
 {
     let depth = dag.node().path.sels.len();
-    if let Some(call) = dag.call_at(j as usize) {
-        if is_of_task(call, depth, j as usize) {
-            return Some((j as usize, call));
+    let mut low: usize = 0;
+    let mut high = most_up_to(dag, j as usize);
+    if high > 0 {
+        if let Some(call) = dag.call_at(high - 1) {
+            if is_of_task(call, depth, j as usize) {
+                return Some((high - 1, call));
+            }
+            if is_in_front(call, depth, j as usize) {
+                return None;
+            }
         }
     }
-    let mut low: usize = 0;
-    let mut high = j as usize + 1;
     while low < high {
         let middle = low + (high - low) / 2;
         let Some(call) = dag.call_at(middle) else {

@@ -11,7 +11,7 @@ ghost use Rattle.dag_plan.specs.Plans.{IsPlan};
 ghost use Rattle.dag_stays.specs.Behind.{AreBehind};
 ghost use Rattle.tree_walk.specs.Index.{IsReady};
 ghost use Rattle.tree_walk.specs.Walkable.{IsWalkableDag};
-ghost use Rattle.tree_change.specs.Changes.{IfGiven, CallChanges};
+ghost use Rattle.tree_change.specs.Changes.{IfGiven};
 ghost use Rattle.tree_change.specs.Inside.Behind.{newest, AreTagged, TellsFollower, IsSoFar, HasAllBehind};
 ghost use Rattle.tree_change.specs.Inside.Resuming.{Resumes, calls_now, calls_before};
 
@@ -224,16 +224,9 @@ impl<R: Recorded> Again<'_, R> {
             IfOk result (λ found. IfSome found (TellsFollower A called place.now scope.now dag.now us k)) }
     {
         match what_becomes(self.walk.alloc(), dag, plan, middle, k)? {
-            None => Ok(None),
-            Some(Following::Waits) => Ok(Some(Follower::Waits)),
-            Some(Following::Freed) => self.freed_behind(
-                place,
-                scope,
-                dag,
-                dag.tasks.get(k),
-                k,
-                left,
-            ),
+            Following::Omitted => Ok(None),
+            Following::Waits => Ok(Some(Follower::Waits)),
+            Following::Freed => self.freed_behind(place, scope, dag, dag.tasks.get(k), k, left),
         }
     }
 

@@ -8,7 +8,7 @@ use Rattle.dag_template.specs.Stands.{verdict}
 use Rattle.dag_board.specs.Boards.{stood}
 use Rattle.dag_stays.specs.Following.{seen}
 use Rattle.dag_stays.proofs.Naming.{task_at}
-use Rattle.dag_stays.proofs.Becoming.{low_places, row_at, meant_at, told_waits, told_freed}
+use Rattle.dag_stays.proofs.Becoming.{low_places, row_at, meant_at, told_waits, told_freed, told_omitted}
 use Rattle.dag_stays.proofs.following.what_becomes.Goals as goal
 
 pub stands_below-requires : goal.stands_below-requires
@@ -59,3 +59,19 @@ returns-in-Holds c =
     c.in_ok-verdict.ensures of (ap (λ (u : Task). map of (waited u)) same ∙ stand ∙ sym c.as_slice-2.ensures)
     ∙ (λ i. verdict (c.as_slice.ensures i) of (same i))))
     c.in-Holds.is
+
+pub returns : goal.returns
+returns c =
+    let d = c.args.dag.now in
+    let row = c.get-2.result.now in
+    let tk = c.get-3.result.now in
+    told_omitted d c.args.k c.args.state.now row c.in_ok-found.found c.in_ok-verdict.verdict
+    (λ t there. meant_at d c.args.plan.now c.requires.plan c.args.k t there true (c.get.ensures ∙ ap (λ (b : Bool). Some b) c.if-not-get.false))
+    (λ t there. row_at d c.args.plan.now c.requires.plan c.args.k t there row c.get-2.ensures)
+    (λ doomed place ss over. c.in_ok-found.ensures.seen doomed place ss over ∙ ap (λ (ps : List ℕ). map (λ p. seen (stood ss p)) ps) c.as_slice-places.ensures)
+    (λ t there of stand.
+    (let both : Some tk ≡ Some t = sym c.get-3.ensures ∙ there in
+    let same : tk ≡ t = cc both in
+    c.in_ok-verdict.ensures of (ap (λ (u : Task). map of (waited u)) same ∙ stand ∙ sym c.as_slice-2.ensures)
+    ∙ (λ i. verdict (c.as_slice.ensures i) of (same i))))
+    c.in-Denied.field-0 c.in-Denied.is
