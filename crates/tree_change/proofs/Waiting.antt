@@ -1,8 +1,9 @@
 -- What becomes of the tasks that wait for one that ended.
-use Rattle.std.proofs.Common.{◌≡◌, ◌≢◌, ◌⊎◌, inl, inr, ℕ, zero, suc, ◌+◌, ◌<◌, ◌≤◌, ◌==◌, List, [], ◌∷◌, ◌++◌, take, get_or, Bool, true, false, not, ◌&&◌, ◌||◌, Option, Some, codes, length, refl, sym, ap, ◌∙◌, subst, arith}
+use Rattle.std.proofs.Common.{◌≡◌, ◌≢◌, ◌⊎◌, inl, inr, ℕ, zero, suc, ◌+◌, ◌<◌, ◌≤◌, ◌==◌, List, [], ◌∷◌, ◌++◌, take, get_or, Bool, true, false, not, ◌&&◌, ◌||◌, Option, Some, None, codes, length, refl, sym, ap, ◌∙◌, subst, arith}
 use Rattle.std.specs.List.{list_any, AllPairs}
 use Rattle.std.proofs.lemmas.Bool.{eq-eqb, ne_eqb}
 use Rattle.std.proofs.lemmas.List.Folds.{list_any_more}
+use Rattle.std.proofs.lemmas.Option.{slice_get_cases}
 use Rattle.std.specs.Prelude.{slice_get, IfSome}
 use Rattle.tree_types.specs.declared.path.Path.{Path}
 use Rattle.depends_expr.specs.Expression.{Expression}
@@ -123,3 +124,11 @@ goes_or false all is = inr is
 pub not_is : (b : Bool) → not b ≡ true → b ≡ false
 not_is true is = absurd (cc is)
 not_is false is = refl
+
+-- the task at a position that there is
+pub task_there : (ts : List Task) (k : ℕ) → k < length ts → (t : Task) × (slice_get ts k ≡ Some t)
+task_there ts k low = by_cases (slice_get_cases ts k).1
+  where
+    by_cases : ((x : Task) × (k < length ts) × (slice_get ts k ≡ Some x) × (get_or ts k x ≡ x)) ⊎ ((length ts ≤ k) × (slice_get ts k ≡ None)) → (t : Task) × (slice_get ts k ≡ Some t)
+    by_cases (inl (x, lt, there, got)) = (x, there)
+    by_cases (inr (far, none)) = absurd (omega (arith, low, far))
