@@ -1,7 +1,7 @@
 -- A workflow that runs on, by what its entrypoint makes.
 use Rattle.std.proofs.Common.{◌≡◌, ◌+◌, ◌≤◌, Bool, true, false, cond, [], ◌∷◌, length, Option, Some, None, refl, sym, ap, ap₂, ◌∙◌, arith}
 use Rattle.base_types.specs.Limits.{most_nodes}
-use Rattle.tree_types.specs.declared.path.Sel.TheVariants.{Main}
+use Rattle.tree_types.specs.declared.path.Sel.TheVariants.{Main, Exit}
 use Rattle.tree_types.specs.declared.path.LockId.{LockId}
 use Rattle.tree_types.specs.declared.phase.Phase.{Phase}
 use Rattle.tree_types.specs.declared.phase.Phase.TheVariants.{Running}
@@ -12,6 +12,7 @@ use Rattle.meaning.specs.Lines.{Made}
 use Rattle.meaning.specs.Trees.{main_made, exit_if, exit_of, lock_granted, ended_phase, running_phase, granted_phase, started_phase, phase, lines, nodes_in}
 use Rattle.locality.specs.Answered.{SameBut}
 use Rattle.tree_state.specs.Counting.{count}
+use Rattle.tree_eval.specs.declared.tops.Tops.{Tops}
 use Rattle.tree_eval.specs.Whole.{Pair, pair, Whole, whole}
 use Rattle.tree_eval.specs.Inside.Tops.{count_exit, meant_tops, count_tops}
 use Rattle.tree_eval.specs.Inside.Stages.{Runs}
@@ -59,13 +60,27 @@ module _ (m : Manifest) (B : Answers) (w : Whole) (is : w ≡ whole m B) where
   pub was_main : Runs m B → w.main ≡ main_made m B
   was_main runs = ap (λ (w : Whole). w.main) is ∙ ap (λ (q : Pair). q.0) (pair_run m B runs)
 
--- a workflow that ran, and of which one fact more is recorded below its entrypoint, runs
-pub runs_still : (m : Manifest) (A B : Answers) (changed rest : Sels) → SameBut A B changed → changed ≡ Main ∷ rest → Runs m B → Runs m A
-runs_still m A B changed rest same way runs = record {
+-- a workflow that ran, and of which one fact more is recorded that is not its own, runs
+runs_off : (m : Manifest) (A B : Answers) (changed : Sels) → SameBut A B changed → sels_eq [] changed ≡ false → Runs m B → Runs m A
+runs_off m A B changed same off runs = record {
   started = same.started ∙ runs.started;
   granted = by m.lock runs.granted;
 }
   where
     by : (o : Option LockId) → lock_granted B o ≡ true → lock_granted A o ≡ true
     by None e = refl
-    by (Some l) e = same.granted [] (ap (sels_eq []) way) ∙ e
+    by (Some l) e = same.granted [] off ∙ e
+
+-- as one below its entrypoint
+pub runs_still : (m : Manifest) (A B : Answers) (changed rest : Sels) → SameBut A B changed → changed ≡ Main ∷ rest → Runs m B → Runs m A
+runs_still m A B changed rest same way = runs_off m A B changed same (ap (sels_eq []) way)
+
+-- or below its exit handler
+pub runs_behind : (m : Manifest) (A B : Answers) (rest : Sels) → SameBut A B (Exit ∷ rest) → Runs m B → Runs m A
+runs_behind m A B rest same = runs_off m A B (Exit ∷ rest) same refl
+
+-- what both made while a workflow ran
+pub was_both : (m : Manifest) (B : Answers) (tops : Tops) (p : Phase) → record { main = tops.main; exit = tops.exit; phase = p } ≡ whole m B → Runs m B → tops ≡ meant_tops m B
+was_both m B tops p is runs =
+    ap (λ (w : Whole). record { main = w.main; exit = w.exit }) is
+    ∙ ap (λ (q : Pair). record { main = q.0; exit = q.1 }) (pair_run m B runs)

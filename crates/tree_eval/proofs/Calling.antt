@@ -19,6 +19,13 @@ pub main_as_called : (m : Manifest) (A : Answers) (globals : Scope) (place : Pla
 main_as_called m A globals place old same is made =
     made ∙ sym (ap (λ (p : Place). top_call m A globals p m.entrypoint) is ∙ top_call_agrees m A globals (globals_of m) (root m) m.entrypoint same)
 
+-- the scope of the exit handler has the values that are meant
+exit_values : (m : Manifest) (globals scope : Scope) (b : Made) (phase : Phase) → HasValuesOf globals (globals_of m) → phase ≡ b.own.node.phase → HasValuesOf scope (status_tag (codes "workflow") phase ++ globals) → HasValuesOf scope (status_tags m b)
+exit_values m globals scope b phase same seen status tag =
+    status tag
+    ∙ append_alike (status_tag (codes "workflow") phase) globals (globals_of m) same tag
+    ∙ ap (λ (p : Phase). value_in (status_tag (codes "workflow") p ++ globals_of m) tag) seen
+
 module _ (m : Manifest) (A : Answers) (before after : ℕ) (r : Result Made TreeRefused) (place : Place) where
   -- a call at the same place, in a scope with the same values
   called : (g h : Scope) (at : Place) (template : List ℕ) → HasValuesOf g h → place ≡ at → Gives before after r (top_call m A g place template) → Gives before after r (top_call m A h at template)
@@ -30,10 +37,9 @@ module _ (m : Manifest) (A : Answers) (before after : ℕ) (r : Result Made Tree
 
   pub exit_called : (globals scope : Scope) (b : Made) (phase : Phase) (template : List ℕ) → HasValuesOf globals (globals_of m) → phase ≡ b.own.node.phase → HasValuesOf scope (status_tag (codes "workflow") phase ++ globals) → place ≡ exit_root m → Gives before after r (top_call m A scope place template) → Gives before after r (exit_made m A b template)
   exit_called globals scope b phase template same seen status is given =
-      called scope (status_tags m b) (exit_root m) template all is given
-    where
-      all : HasValuesOf scope (status_tags m b)
-      all tag =
-          status tag
-          ∙ append_alike (status_tag (codes "workflow") phase) globals (globals_of m) same tag
-          ∙ ap (λ (p : Phase). value_in (status_tag (codes "workflow") p ++ globals_of m) tag) seen
+      called scope (status_tags m b) (exit_root m) template (exit_values m globals scope b phase same seen status) is given
+
+-- what the exit handler made, as a call at its place, in a scope with the same values
+pub exit_as_called : (m : Manifest) (A : Answers) (globals scope : Scope) (place : Place) (b old : Made) (phase : Phase) (template : List ℕ) → HasValuesOf globals (globals_of m) → phase ≡ b.own.node.phase → HasValuesOf scope (status_tag (codes "workflow") phase ++ globals) → place ≡ exit_root m → old ≡ exit_made m A b template → old ≡ top_call m A scope place template
+exit_as_called m A globals scope place b old phase template same seen status is made =
+    made ∙ sym (ap (λ (p : Place). top_call m A scope p template) is ∙ top_call_agrees m A scope (status_tags m b) (exit_root m) template (exit_values m globals scope b phase same seen status))

@@ -1,7 +1,9 @@
 mod After
+mod Behind
 mod Calling
 mod Counting
 mod Firsts
 mod KindNamed
 mod Pods
+mod Positions
 mod Running

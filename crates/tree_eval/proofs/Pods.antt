@@ -1,5 +1,5 @@
 -- The first pod that passes a test, of the entrypoint or else of the exit handler, where none of so many from the first does.
-use Rattle.std.proofs.Common.{◌≡◌, ℕ, zero, suc, ◌+◌, ◌-◌, ◌<◌, ◌≤◌, nat_le, Bool, true, false, cond, ◌&&◌, List, [], ◌∷◌, ◌++◌, length, take, Option, Some, None, option_map, refl, sym, ap, ◌∙◌, subst, arith}
+use Rattle.std.proofs.Common.{◌≡◌, ℕ, zero, suc, ◌+◌, ◌-◌, ◌<◌, ◌≤◌, nat_le, Bool, true, false, cond, ◌&&◌, List, [], ◌∷◌, ◌++◌, length, length-append, take, min, ◌^◌, Option, Some, None, option_map, refl, sym, ap, ◌∙◌, subst, arith}
 use Rattle.std.specs.List.{find}
 use Rattle.std.specs.Option.{option_or}
 use Rattle.std.proofs.lemmas.Bool.{leb-true, leb-false}
@@ -14,9 +14,7 @@ use Rattle.tree_state.proofs.OfKind.{kind_then}
 use Rattle.tree_eval.specs.declared.tops.Tops.{Tops}
 use Rattle.tree_eval.specs.Inside.Tops.{lines_of}
 use Rattle.tree_eval.specs.Pods.{NoneAmong}
-
-abbrev Found : Type 0
-Found = Option (ℕ × Want)
+use Rattle.tree_eval.proofs.Positions.{Found, moved, found_in_both}
 
 abbrev want_of : Found → Option Want
 want_of o = option_map (λ (f : ℕ × Want). f.1) o
@@ -144,6 +142,23 @@ module _ (t : Want → Bool) where
       let nones = none_here x xs (t x) refl none in
       none_then x (take (length xs) (xs ++ ys)) nones.0 (none_all xs ys nones.1)
 
+  -- of none of so many from the first, none of fewer
+  none_fewer : (k n : ℕ) (ws : List Want) → k ≤ n → NoneAmong n t ws → NoneAmong k t ws
+  none_fewer zero n ws few none = refl
+  none_fewer (suc k) zero ws few none = absurd (omega (arith, few))
+  none_fewer (suc k) (suc n) [] few none = refl
+  none_fewer (suc k) (suc n) (x ∷ ws) few none =
+      let nones = none_here x (take n ws) (t x) refl none in
+      none_then x (take k ws) nones.0 (none_fewer k n ws (omega (arith, few)) nones.1)
+
+  none_behind : (k : ℕ) (xs ys : List Want) → find t xs ≡ None → NoneAmong k t ys → NoneAmong (length xs + k) t (xs ++ ys)
+  none_behind k [] ys none more = let e : 0 + k ≡ k = omega arith in same_count (0 + k) k ys e ∙ more
+  none_behind k (x ∷ xs) ys none more =
+      let nones = none_here x xs (t x) refl none in
+      let e : suc (length xs) + k ≡ suc (length xs + k) = omega arith in
+      same_count (suc (length xs) + k) (suc (length xs + k)) (x ∷ (xs ++ ys)) e
+      ∙ none_then x (take (length xs + k) (xs ++ ys)) nones.0 (none_behind k xs ys nones.1 more)
+
 abbrev pub pods_of : List Line → List Want
 pods_of ls = pods_in (wants_in ls)
 
@@ -198,5 +213,51 @@ module _ (tops : Tops) (t : Want → Bool) where
           ∙ ap (λ (o : Option Want). option_or o (find t exit_pods)) (sym main_none)
           ∙ sym all_found
 
-      pub exit_known : (k : ℕ) → k ≡ length main_pods → NoneAmong k t (pods_of (lines_of tops))
-      exit_known k is = subst (λ (n : ℕ). NoneAmong n t (pods_of (lines_of tops))) (sym is) (subst (NoneAmong (length main_pods) t) (sym both) (none_all t main_pods exit_pods main_none))
+      -- the exit handler has one
+      pub exit_known : (e : Made) (f : ℕ × Want) (k before known : ℕ) → tops.exit ≡ Some e → Some f ≡ found_from k t (pods_of (lines_in e)) → k ≡ n - before → before ≡ length main_pods → known ≤ before + f.0 → NoneAmong known t (pods_of (lines_of tops))
+      exit_known e f k before known is found rest count few =
+          let from : k ≡ n - length main_pods = rest ∙ ap (λ (b : ℕ). n - b) count in
+          let here : Some f ≡ found_from (n - length main_pods) t exit_pods =
+          found
+          ∙ ap (λ (k : ℕ). found_from k t (pods_of (lines_in e))) from
+          ∙ ap (λ (x : Option Made). found_from (n - length main_pods) t (pods_of (exit_lines x))) (sym is) in
+          let till : NoneAmong f.0 t exit_pods = none_till t (n - length main_pods) exit_pods f (none_back t n main_pods exit_pods none_both) here in
+          let both_till : NoneAmong (length main_pods + f.0) t (main_pods ++ exit_pods) = none_behind t f.0 main_pods exit_pods main_none till in
+          subst (NoneAmong known t) (sym both) (none_fewer t known (length main_pods + f.0) (main_pods ++ exit_pods) (omega (arith, few, count)) both_till)
+
+  -- ---- where it stands
+
+  module _ (n : ℕ) where
+    exact_both : found_from n t (pods_of (lines_of tops)) ≡ option_or (found_from n t main_pods) (moved (length main_pods) (found_from (n - length main_pods) t exit_pods))
+    exact_both = ap (found_from n t) both ∙ found_in_both t n main_pods exit_pods
+
+    pub main_exact : (f : ℕ × Want) → Some f ≡ found_from n t main_pods → Some f ≡ found_from n t (pods_of (lines_of tops))
+    main_exact f has =
+        ap (λ (o : Found). option_or o (moved (length main_pods) (found_from (n - length main_pods) t exit_pods))) has ∙ sym exact_both
+
+    module _ (lacks : None ≡ found_from n t main_pods) where
+      exit_alone : moved (length main_pods) (found_from (n - length main_pods) t exit_pods) ≡ found_from n t (pods_of (lines_of tops))
+      exit_alone =
+          ap (λ (o : Found). option_or o (moved (length main_pods) (found_from (n - length main_pods) t exit_pods))) lacks ∙ sym exact_both
+
+      pub no_exit_exact : tops.exit ≡ None → None ≡ found_from n t (pods_of (lines_of tops))
+      no_exit_exact gone =
+          ap (λ (e : Option Made). moved (length main_pods) (found_from (n - length main_pods) t (pods_of (exit_lines e)))) (sym gone) ∙ exit_alone
+
+      pub exit_exact : (e : Made) (f : Found) (k before : ℕ) → tops.exit ≡ Some e → f ≡ found_from k t (pods_of (lines_in e)) → k ≡ n - before → before ≡ length main_pods → moved before f ≡ found_from n t (pods_of (lines_of tops))
+      exit_exact e f k before is found rest count =
+          ap (λ (b : ℕ). moved b f) count
+          ∙ ap (λ (o : Found). moved (length main_pods) o) (
+          found
+          ∙ ap (λ (k : ℕ). found_from k t (pods_of (lines_in e))) (rest ∙ ap (λ (b : ℕ). n - b) count)
+          ∙ ap (λ (x : Option Made). found_from (n - length main_pods) t (pods_of (exit_lines x))) (sym is)
+          )
+          ∙ exit_alone
+
+  -- what stands there can be counted where all can
+  pub counts : (e : Made) (f : ℕ × Want) (k before sum : ℕ) → tops.exit ≡ Some e → Some f ≡ found_from k t (pods_of (lines_in e)) → before ≡ length main_pods → length (pods_of (lines_of tops)) < 2 ^ 64 → sum ≡ min (before + f.0) (2 ^ 64 - 1) → sum ≡ before + f.0
+  counts e f k before sum is found count few sums =
+      let within : f.0 ≤ length (pods_of (lines_in e)) = stands_within t k (pods_of (lines_in e)) f found in
+      let same : length exit_pods ≡ length (pods_of (lines_in e)) = ap (λ (x : Option Made). length (pods_of (exit_lines x))) is in
+      let all : length (pods_of (lines_of tops)) ≡ length main_pods + length exit_pods = ap length both ∙ length-append main_pods exit_pods in
+      omega (arith, within, same, all, few, count, sums)

@@ -16,7 +16,7 @@ use base_types::{Memory, TryCopy};
 use call_nodes::bare;
 use hooks_exit::law::phase_is_meant;
 use recorded::Recorded;
-use tree_state::{Below, State, TreeRefused};
+use tree_state::{Below, Shared, State, TreeRefused};
 use tree_types::{LockId, Note, Path, Phase, Sels, Want, Wants};
 use wf_manifest::Manifest;
 
@@ -31,6 +31,7 @@ pub fn pending(manifest: &Manifest, note: Note, wants: Wants) -> Result<Workflow
     let place = root_place(manifest)?;
     let node = bare(place, root_kind(manifest), Phase::Pending, note);
     let main = State::new(node, wants, Below::new(manifest.name.allocator()));
+    let main = Shared::new(main)?;
     Ok(WorkflowTree {
         tops: Tops { main, exit: None },
         phase: Phase::Pending,

@@ -1,12 +1,12 @@
 //! What the entrypoint makes, and the exit handler.
 
-ghost use Rattle.std.specs.Prelude.{◌≡◌, ◌≤◌, ◌^◌, ◌∷◌, ◌++◌, IfOk, IfSome, OnOk, MatchOption, option_copied, option_map, length};
+ghost use Rattle.std.specs.Prelude.{◌≡◌, ◌<◌, ◌≤◌, ◌^◌, ◌∷◌, ◌++◌, IfOk, IfSome, OnOk, MatchOption, option_copied, option_map, length};
 ghost use Rattle.std.specs.List.{find, filter};
 ghost use Rattle.meaning.specs.Trees.{nodes_in, wants_in, beginnings_in};
 ghost use Rattle.tree_state.specs.Asking.{is_of, first};
-ghost use Rattle.tree_types.specs.declared.path.Sel.TheVariants.{Main};
+ghost use Rattle.tree_types.specs.declared.path.Sel.TheVariants.{Main, Exit};
 ghost use Rattle.locality.specs.Answered.{SameBut};
-ghost use Rattle.tree_state.specs.Finding.{passes, locks_in, pods_in, next_tick, IsFound};
+ghost use Rattle.tree_state.specs.Finding.{passes, locks_in, pods_in, found_from, next_tick, IsFound};
 ghost use Rattle.scopes.specs.Values.{HasValuesOf};
 ghost use Rattle.meaning.specs.Trees as trees;
 ghost use Rattle.wf_manifest.specs.Valid.{Valid};
@@ -17,15 +17,17 @@ ghost use Rattle.tree_eval.specs.Inside.Tops as inside;
 ghost use Rattle.tree_eval.specs.Pods.{NoneAmong};
 
 use crate::roots::{exit_place, root_place};
-use base_types::{Memory, Text};
+use base_types::{Memory, Text, TryCopy};
 use call_texts::{status_scope, workflow_scope};
 use hooks_exit::workflow_phase;
+use locality::laws::top_calls_off_stay;
 use recorded::Recorded;
 use scopes::Scope;
 use std::alloc::Global;
 use tree_change::made_again;
 use tree_state::{
-    Clue, NodeTest, Room, State, Told, TreeRefused, WantKind, WantTest, counts_nodes, sooner,
+    Clue, NodeTest, Room, Shared, State, Told, TreeRefused, WantKind, WantTest, counts_nodes,
+    sooner,
 };
 use tree_types::{Node, Path, Phase, Sel, Want, Wants};
 use tree_walk::{Positions, positions_of, top_state};
@@ -34,7 +36,7 @@ use wf_manifest::Manifest;
 /// What the entrypoint makes, and the exit handler where it runs: once the entrypoint is finished.
 #[derive(Drop)]
 pub struct Tops {
-    pub main: State,
+    pub main: Shared,
     pub exit: Option<State>,
 }
 
@@ -102,6 +104,33 @@ fn exit_state<R: Recorded>(
     top_state(manifest, positions, &scope, recorded, place, template, room)
 }
 
+// What the exit handler makes once one fact more is recorded, by what it made before.
+fn exit_again<R: Recorded>(
+    manifest: &Manifest,
+    positions: &Positions,
+    globals: &Scope,
+    recorded: &R,
+    before: &R,
+    main: &State,
+    template: &Text,
+    old: &State,
+    rest: &[Sel],
+    room: &mut Room,
+) -> Result<State, TreeRefused>
+    requires ready { IsReady manifest.now positions.now }
+    requires said { HasValuesOf globals.now (trees.globals_of manifest.now) }
+    requires same { SameBut (R.answers recorded.now) (R.answers before.now) (Exit ∷ rest.now) }
+    requires old { old.now ≡ trees.exit_made manifest.now (R.answers before.now) main.now template.now }
+    ensures { Gives room.old room.new result
+        (trees.exit_made manifest.now (R.answers recorded.now) main.now template.now) }
+{
+    let place = exit_place(manifest)?;
+    let scope = status_scope(manifest.name.allocator(), globals, main.phase())?;
+    made_again(
+        manifest, positions, &scope, recorded, before, place, template, old, rest, room,
+    )
+}
+
 // The template of the exit handler, once the entrypoint is finished.
 fn handler<'a>(manifest: &'a Manifest, main: &State) -> Option<&'a Text>
     ensures { option_copied result ≡ inside.once main.now.own.finished manifest.now.on_exit }
@@ -135,6 +164,42 @@ fn exit_once<R: Recorded>(
     }
 }
 
+// What the exit handler makes once one fact more is recorded below its node, where it runs.
+fn exit_after<R: Recorded>(
+    manifest: &Manifest,
+    positions: &Positions,
+    globals: &Scope,
+    recorded: &R,
+    before: &R,
+    tops: &Tops,
+    rest: &[Sel],
+    room: &mut Room,
+) -> Result<Option<State>, TreeRefused>
+    requires ready { IsReady manifest.now positions.now }
+    requires said { HasValuesOf globals.now (trees.globals_of manifest.now) }
+    requires same { SameBut (R.answers recorded.now) (R.answers before.now) (Exit ∷ rest.now) }
+    requires old { tops.now.exit ≡ trees.exit_of manifest.now (R.answers before.now) tops.now.main }
+    ensures { inside.GivesExit room.old room.new result
+        (trees.exit_of manifest.now (R.answers recorded.now) tops.now.main) }
+{
+    let main = tops.main.state();
+    let Some(template) = handler(manifest, main) else {
+        return Ok(None);
+    };
+    match &tops.exit {
+        None => {
+            let exit = exit_state(manifest, positions, globals, recorded, main, template, room)?;
+            Ok(Some(exit))
+        }
+        Some(old) => {
+            let exit = exit_again(
+                manifest, positions, globals, recorded, before, main, template, old, rest, room,
+            )?;
+            Ok(Some(exit))
+        }
+    }
+}
+
 impl Tops {
     /// Walks over the manifest: no more nodes are made than a tree may have.
     pub fn of<R: Recorded>(manifest: &Manifest, recorded: &R) -> Result<Tops, TreeRefused>
@@ -146,6 +211,7 @@ impl Tops {
         let mut room = Room::new();
         let main = main_state(manifest, &positions, &globals, recorded, &mut room)?;
         let exit = exit_once(manifest, &positions, &globals, recorded, &main, &mut room)?;
+        let main = Shared::new(main)?;
         Ok(Tops { main, exit })
     }
 
@@ -166,10 +232,38 @@ impl Tops {
     {
         let globals = workflow_scope(manifest.name.allocator(), manifest)?;
         let mut room = Room::new();
+        let old = self.main.state();
         let main = main_again(
-            manifest, positions, &globals, recorded, before, &self.main, rest, &mut room,
+            manifest, positions, &globals, recorded, before, old, rest, &mut room,
         )?;
         let exit = exit_once(manifest, positions, &globals, recorded, &main, &mut room)?;
+        let main = Shared::new(main)?;
+        Ok(Tops { main, exit })
+    }
+
+    /// Both once one fact more is recorded below the exit handler, by what was made before. `rest` is what the path of the fact
+    /// has behind the exit handler's node. What the entrypoint made is shared, and so is what is on no way to the fact.
+    pub fn again_behind<R: Recorded>(
+        &self,
+        manifest: &Manifest,
+        positions: &Positions,
+        recorded: &R,
+        before: &R,
+        rest: &[Sel],
+    ) -> Result<Tops, TreeRefused>
+        requires ready { IsReady manifest.now positions.now }
+        requires same { SameBut (R.answers recorded.now) (R.answers before.now) (Exit ∷ rest.now) }
+        requires old { self.now ≡ inside.meant_tops manifest.now (R.answers before.now) }
+        ensures { inside.GivesTops result manifest.now (R.answers recorded.now) }
+    {
+        top_calls_off_stay();
+        let globals = workflow_scope(manifest.name.allocator(), manifest)?;
+        let mut room = Room::new();
+        room.take_all(self.main.state().count())?;
+        let exit = exit_after(
+            manifest, positions, &globals, recorded, before, self, rest, &mut room,
+        )?;
+        let main = self.main.copy()?;
         Ok(Tops { main, exit })
     }
 
@@ -177,7 +271,7 @@ impl Tops {
     pub fn phase(&self) -> Phase
         ensures { result ≡ inside.phase_of self.now }
     {
-        workflow_phase(self.main.phase(), exit_phase(&self.exit))
+        workflow_phase(self.main.state().phase(), exit_phase(&self.exit))
     }
 
     /// How many nodes both have.
@@ -186,8 +280,8 @@ impl Tops {
     {
         counts_nodes();
         match &self.exit {
-            None => self.main.count(),
-            Some(exit) => self.main.count() + exit.count(),
+            None => self.main.state().count(),
+            Some(exit) => self.main.state().count() + exit.count(),
         }
     }
 
@@ -196,7 +290,7 @@ impl Tops {
         ensures { MatchOption result (2 ^ 64 ≤ length (pods_in (wants_in (inside.lines_of self.now))))
             (λ count. count ≡ length (pods_in (wants_in (inside.lines_of self.now)))) }
     {
-        let main = self.main.pods();
+        let main = self.main.state().pods();
         match &self.exit {
             None => Some(main),
             Some(exit) => main.checked_add(exit.pods()),
@@ -208,7 +302,7 @@ impl Tops {
         ensures { MatchOption result (2 ^ 64 ≤ length (locks_in (wants_in (inside.lines_of self.now))))
             (λ count. count ≡ length (locks_in (wants_in (inside.lines_of self.now)))) }
     {
-        let main = self.main.locks();
+        let main = self.main.state().locks();
         match &self.exit {
             None => Some(main),
             Some(exit) => main.checked_add(exit.locks()),
@@ -219,7 +313,7 @@ impl Tops {
     pub fn first_want(&self, kind: WantKind) -> Option<&Want>
         ensures { option_copied result ≡ find (is_of kind) (wants_in (inside.lines_of self.now)) }
     {
-        if let Some(want) = self.main.first_want(kind) {
+        if let Some(want) = self.main.state().first_want(kind) {
             return Some(want);
         }
         match &self.exit {
@@ -232,7 +326,7 @@ impl Tops {
     pub fn first_beginning(&self) -> Option<&Path>
         ensures { option_copied result ≡ first (beginnings_in (inside.lines_of self.now)) }
     {
-        if let Some(path) = self.main.first_beginning() {
+        if let Some(path) = self.main.state().first_beginning() {
             return Some(path);
         }
         match &self.exit {
@@ -246,7 +340,7 @@ impl Tops {
         ensures { option_copied result
             ≡ find (passes kind (T.accepts test.now)) (wants_in (inside.lines_of self.now)) }
     {
-        if let Some(want) = self.main.find_want(kind, test) {
+        if let Some(want) = self.main.state().find_want(kind, test) {
             return Some(want);
         }
         match &self.exit {
@@ -260,14 +354,17 @@ impl Tops {
         ensures { OnOk result
             (wants.new ≡ wants.old ++ filter (is_of kind) (wants_in (inside.lines_of self.now))) }
     {
-        self.main.add_wants(kind, wants)?;
+        self.main.state().add_wants(kind, wants)?;
         add_of_exit(&self.exit, kind, wants)?;
         Ok(())
     }
 
     /// The first pod that is asked for and passes a test, in tree order, where none of so many from the first does; and how many
-    /// from the first are known not to.
+    /// from the first are known not to: where it stands, if that can be counted.
     pub fn find_pod_behind<T: WantTest>(&self, known: usize, test: &T) -> Option<(usize, &Want)>
+        ensures exact { length (pods_in (wants_in (inside.lines_of self.now))) < 2 ^ 64
+            → option_map (λ f. (f.0, f.1.now)) result
+            ≡ found_from known (T.accepts test.now) (pods_in (wants_in (inside.lines_of self.now))) }
         ensures first { NoneAmong known (T.accepts test.now) (pods_in (wants_in (inside.lines_of self.now)))
             → option_map (λ f. f.1.now) result
             ≡ find (T.accepts test.now) (pods_in (wants_in (inside.lines_of self.now))) }
@@ -275,14 +372,15 @@ impl Tops {
             → IfSome result (λ f.
             NoneAmong f.0 (T.accepts test.now) (pods_in (wants_in (inside.lines_of self.now)))) }
     {
-        if let Some(found) = self.main.find_pod_from(known, test) {
+        let main = self.main.state();
+        if let Some(found) = main.find_pod_from(known, test) {
             return Some(found);
         }
         let Some(exit) = &self.exit else { return None };
-        let before = self.main.pods();
+        let before = main.pods();
         match exit.find_pod_from(known.saturating_sub(before), test) {
             None => None,
-            Some((_, want)) => Some((before, want)),
+            Some((at, want)) => Some((before.saturating_add(at), want)),
         }
     }
 
@@ -291,7 +389,7 @@ impl Tops {
         ensures { option_copied result
             ≡ find (T.accepts test.now) (nodes_in (inside.lines_of self.now)) }
     {
-        if let Some(node) = self.main.find_node(test) {
+        if let Some(node) = self.main.state().find_node(test) {
             return Some(node);
         }
         match &self.exit {
@@ -304,7 +402,7 @@ impl Tops {
     pub fn on_way(&self, clue: &Clue<'_>) -> Option<&Node>
         ensures { IfSome result (λ node. IsFound clue.now (inside.lines_of self.now) node.now) }
     {
-        if let Some(node) = self.main.on_way(clue) {
+        if let Some(node) = self.main.state().on_way(clue) {
             return Some(node);
         }
         match &self.exit {
@@ -318,8 +416,8 @@ impl Tops {
         ensures { result ≡ next_tick clock (wants_in (inside.lines_of self.now)) }
     {
         match &self.exit {
-            None => self.main.next_timer(clock),
-            Some(exit) => sooner(self.main.next_timer(clock), exit.next_timer(clock)),
+            None => self.main.state().next_timer(clock),
+            Some(exit) => sooner(self.main.state().next_timer(clock), exit.next_timer(clock)),
         }
     }
 
@@ -328,7 +426,7 @@ impl Tops {
         ensures { IfOk result (λ told. told ≡ told_with no_lines (inside.lines_of self.now)) }
     {
         let mut told = Told::new(alloc);
-        self.main.tell(&mut told)?;
+        self.main.state().tell(&mut told)?;
         tell_exit(&self.exit, &mut told)?;
         Ok(told)
     }

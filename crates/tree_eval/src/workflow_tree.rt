@@ -1,12 +1,12 @@
 //! The tree of a workflow, kept as it was made.
 
-ghost use Rattle.std.specs.Prelude.{◌≡◌, ◌≢◌, ◌≤◌, ◌^◌, ◌∷◌, Err, IfOk, IfSome, MatchOption, length, option_copied, option_map};
+ghost use Rattle.std.specs.Prelude.{◌≡◌, ◌≢◌, ◌<◌, ◌≤◌, ◌^◌, ◌∷◌, Err, IfOk, IfSome, MatchOption, length, option_copied, option_map};
 ghost use Rattle.std.specs.List.{find, filter};
 ghost use Rattle.meaning.specs.Trees.{nodes_in, wants_in, beginnings_in};
 ghost use Rattle.tree_state.specs.declared.refused.TreeRefused.TheVariants as refused;
 ghost use Rattle.tree_state.specs.Asking.{is_of, first};
-ghost use Rattle.tree_state.specs.Finding.{passes, locks_in, pods_in, next_tick, IsFound};
-ghost use Rattle.tree_types.specs.declared.path.Sel.TheVariants.{Main};
+ghost use Rattle.tree_state.specs.Finding.{passes, locks_in, pods_in, found_from, next_tick, IsFound};
+ghost use Rattle.tree_types.specs.declared.path.Sel.TheVariants.{Main, Exit};
 ghost use Rattle.tree_types.specs.declared.phase.Phase.TheVariants.{Running};
 ghost use Rattle.locality.specs.Answered.{SameBut};
 ghost use Rattle.wf_manifest.specs.Valid.{Valid};
@@ -26,7 +26,7 @@ use hooks_exit::law::phase_is_meant;
 use std::alloc::Global;
 use std::marker::Model;
 use tree_change::{changed_top, split};
-use tree_state::{Clue, NodeTest, State, WantKind, WantTest};
+use tree_state::{Clue, NodeTest, Shared, WantKind, WantTest};
 use tree_types::{Node, Note, Path, Phase, Sel, Want, Wants};
 use tree_walk::Positions;
 use wf_manifest::Manifest;
@@ -93,13 +93,13 @@ impl WorkflowTree {
         requires tree { self.now ≡ whole manifest.now (R.answers before.now) }
         ensures { RunsOn manifest.now (R.answers recorded.now) result }
     {
-        let Some(rest) = self.below_main(changed) else {
+        let Some((Sel::Main, rest)) = self.below(changed) else {
             return Ok(None);
         };
         if self.tops.exit.is_some() {
             return Ok(None);
         }
-        let old = &self.tops.main;
+        let old = self.tops.main.state();
         let entry = &manifest.entrypoint;
         let Some(main) = changed_top(manifest, positions, recorded, old, entry, rest)? else {
             return Ok(None);
@@ -110,6 +110,7 @@ impl WorkflowTree {
         if main.count() > MOST_NODES {
             return Ok(None);
         }
+        let main = Shared::new(main)?;
         Ok(Some(WorkflowTree {
             tops: Tops { main, exit: None },
             phase: Phase::Running,
@@ -118,7 +119,7 @@ impl WorkflowTree {
 
     /// The tree once one fact more is recorded, whatever changes with it: what is on no way to the fact, and does not begin
     /// with it, is shared. There is none where the tree has to be made anew: where the workflow did not run, and where the
-    /// fact is none of the entrypoint.
+    /// fact is of the workflow itself.
     pub fn after<R: Recorded>(
         &self,
         manifest: &Manifest,
@@ -132,30 +133,31 @@ impl WorkflowTree {
         requires tree { self.now ≡ whole manifest.now (R.answers before.now) }
         ensures { IsMeant manifest.now (R.answers recorded.now) result }
     {
-        match self.below_main(changed) {
-            None => Ok(None),
-            Some(rest) => Ok(Some(self.again(manifest, positions, recorded, before, rest)?)),
+        match self.below(changed) {
+            Some((Sel::Main, rest)) => {
+                let tree = self.again(manifest, positions, recorded, before, rest)?;
+                Ok(Some(tree))
+            }
+            Some((Sel::Exit, rest)) => {
+                let tree = self.again_behind(manifest, positions, recorded, before, rest)?;
+                Ok(Some(tree))
+            }
+            _ => Ok(None),
         }
     }
 
-    // What a path has behind the entrypoint's, where the workflow runs and the path goes below its entrypoint.
-    fn below_main<'a>(&self, changed: &'a [Sel]) -> Option<&'a [Sel]>
-        ensures { IfSome result (λ rest.
-            (changed.now ≡ Main ∷ rest.now) × (self.now.phase ≡ Running)) }
+    // The first selector of a path, and what is behind it, where the workflow runs.
+    fn below<'a>(&self, changed: &'a [Sel]) -> Option<(Sel, &'a [Sel])>
+        ensures { IfSome result (λ parts.
+            (changed.now ≡ parts.0 ∷ parts.1.now) × (self.now.phase ≡ Running)) }
     {
         let Phase::Running = self.phase else {
             return None;
         };
-        let Some((first, rest)) = split(changed) else {
-            return None;
-        };
-        let Sel::Main = first else {
-            return None;
-        };
-        Some(rest)
+        split(changed)
     }
 
-    // What `after` gives.
+    // What `after` gives below the entrypoint.
     fn again<R: Recorded>(
         &self,
         manifest: &Manifest,
@@ -174,6 +176,29 @@ impl WorkflowTree {
         let tops = self
             .tops
             .again(manifest, positions, recorded, before, rest)?;
+        let phase = tops.phase();
+        Ok(WorkflowTree { tops, phase })
+    }
+
+    // What `after` gives below the exit handler.
+    fn again_behind<R: Recorded>(
+        &self,
+        manifest: &Manifest,
+        positions: &Positions,
+        recorded: &R,
+        before: &R,
+        rest: &[Sel],
+    ) -> Result<WorkflowTree, TreeRefused>
+        requires ready { IsReady manifest.now positions.now }
+        requires same { SameBut (R.answers recorded.now) (R.answers before.now) (Exit ∷ rest.now) }
+        requires tree { self.now ≡ whole manifest.now (R.answers before.now) }
+        requires runs { self.now.phase ≡ Running }
+        ensures { GivesWhole result manifest.now (R.answers recorded.now) }
+    {
+        phase_is_meant();
+        let tops = self
+            .tops
+            .again_behind(manifest, positions, recorded, before, rest)?;
         let phase = tops.phase();
         Ok(WorkflowTree { tops, phase })
     }
@@ -240,8 +265,11 @@ impl WorkflowTree {
     }
 
     /// The first pod that is asked for and passes a test, in tree order, where none of so many from the first does; and how many
-    /// from the first are known not to.
+    /// from the first are known not to: where it stands, if that can be counted.
     pub fn find_pod_behind<T: WantTest>(&self, known: usize, test: &T) -> Option<(usize, &Want)>
+        ensures exact { length (pods_in (wants_in (lines_of self.now))) < 2 ^ 64
+            → option_map (λ f. (f.0, f.1.now)) result
+            ≡ found_from known (T.accepts test.now) (pods_in (wants_in (lines_of self.now))) }
         ensures first { NoneAmong known (T.accepts test.now) (pods_in (wants_in (lines_of self.now)))
             → option_map (λ f. f.1.now) result
             ≡ find (T.accepts test.now) (pods_in (wants_in (lines_of self.now))) }

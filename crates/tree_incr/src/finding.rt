@@ -1,13 +1,13 @@
 //! What stands in a workflow's tree, found without a list of it.
 
-ghost use Rattle.std.specs.Prelude.{◌≡◌, ◌&&◌, IfOk, IfSome, bytes_eq, option_copied, option_map};
+ghost use Rattle.std.specs.Prelude.{◌≡◌, ◌&&◌, ◌<◌, ◌^◌, IfOk, IfSome, bytes_eq, length, option_copied, option_map};
 ghost use Rattle.std.specs.List.{find, filter};
 ghost use Rattle.tree_types.specs.Places.{sels_eq};
 ghost use Rattle.wf_manifest.specs.Valid.{Valid};
 ghost use Rattle.meaning.specs.Trees as trees;
 ghost use Rattle.tree_state.specs.Asking.{is_of};
 ghost use Rattle.tree_eval.specs.Pods.{NoneAmong};
-ghost use Rattle.tree_state.specs.Finding.{fits, pods_in, next_tick};
+ghost use Rattle.tree_state.specs.Finding.{fits, pods_in, found_from, next_tick};
 
 use crate::TreeState;
 use base_types::{Memory, Text};
@@ -36,8 +36,12 @@ impl TreeState {
     }
 
     /// The first pod that is asked for and passes a test, in tree order, where none of so many from the first does; and how many
-    /// from the first are known not to.
+    /// from the first are known not to: where it stands, if that can be counted.
     pub fn find_pod_behind<T: WantTest>(&self, known: usize, test: &T) -> Option<(usize, &Want)>
+        ensures exact { length (pods_in (trees.wants self.now.manifest self.now.facts)) < 2 ^ 64
+            → option_map (λ f. (f.0, f.1.now)) result
+            ≡ found_from known (T.accepts test.now)
+            (pods_in (trees.wants self.now.manifest self.now.facts)) }
         ensures first { NoneAmong known (T.accepts test.now)
             (pods_in (trees.wants self.now.manifest self.now.facts))
             → option_map (λ f. f.1.now) result
