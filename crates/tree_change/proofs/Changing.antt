@@ -41,7 +41,8 @@ use Rattle.locality.specs.Answered.{SameBut}
 use Rattle.locality.proofs.Paths.{off_other_child}
 use Rattle.locality.proofs.OffPath.{call_stays, item_stays, group_stays}
 use Rattle.tree_state.specs.Replacing.{call_at, replaced, with_call, with_item}
-use Rattle.tree_change.specs.Entered.{IsRunning, place_of}
+use Rattle.growth.specs.Ticks.{place_of}
+use Rattle.tree_change.specs.Entered.{IsRunning}
 use Rattle.tree_change.specs.Open.{unlocked, IsOpen}
 use Rattle.tree_change.proofs.Entering.{goes_on_before, goes_on_at, made_inside, has_entered, no_hook, runs_alone}
 use Rattle.tree_change.proofs.Opening.{is_open, open_phase, open_made, plain_made, saved_made, open_alike}

@@ -25,7 +25,7 @@ use Rattle.dag_board.specs.Turns.{Tells, Begins, Omits, IsReady}
 use Rattle.dag_board.proofs.Writing.{waiting_is_shown}
 use Rattle.dag_stays.specs.declared.were.Were.{Were}
 use Rattle.dag_stays.specs.Knowing.{WereSo, Stays}
-use Rattle.tree_walk.specs.Inside.Tasks.{stood_count, GivesTask}
+use Rattle.tree_walk.specs.Tasks.{stood_count, GivesTask}
 use Rattle.tree_walk.proofs.Rooms.{gives_as, by_err}
 use Rattle.tree_walk.proofs.Tasks.{got, task_waits, stands_free, task_omitted, task_no_room, task_ready, task_begun, task_fails}
 use Rattle.tree_change.specs.declared.again.Again.{Again}

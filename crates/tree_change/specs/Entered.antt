@@ -6,9 +6,7 @@ use Rattle.wf_manifest.specs.declared.manifest.Manifest.{Manifest}
 use Rattle.scopes.specs.Substitution.{Scope}
 use Rattle.meaning.specs.Lines.{Made}
 use Rattle.meaning.specs.Calls.{template_named, template_scope}
-use Rattle.tree_types.specs.declared.node.Node.{Node}
 use Rattle.tree_types.specs.declared.phase.Phase.TheVariants.{Running}
-use Rattle.meaning.specs.declared.lines.Place.{Place}
 
 abbrev pub IsRunning : Made → Type 0
 IsRunning b = b.own.node.phase ≡ Running
@@ -17,7 +15,3 @@ IsRunning b = b.own.node.phase ≡ Running
 pub record Enters (m : Manifest) (g : Scope) (scope : Scope) (name : List ℕ) (given : List Argument) (t : Template) (inner : Scope) : Type 0 where
   pub found : template_named m name ≡ Some t
   pub said : template_scope g scope given t.inputs ≡ Ok inner
-
--- the place that a node stands at
-abbrev pub place_of : Node → Place
-place_of n = record { sels = n.path.sels; name = n.name; depth = n.depth }

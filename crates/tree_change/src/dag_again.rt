@@ -10,7 +10,7 @@ ghost use Rattle.tree_walk.specs.Walkable.{IsWalkableDag};
 ghost use Rattle.dag_plan.specs.Plans.{IsPlan};
 ghost use Rattle.dag_board.specs.Boards.{IsBoard, IsTurn, stands_at, seen_by};
 ghost use Rattle.dag_stays.specs.Knowing.{WereSo};
-ghost use Rattle.tree_walk.specs.Inside.Tasks.{GivesTask, GivesBoard, stood_count};
+ghost use Rattle.tree_walk.specs.Tasks.{GivesTask, GivesBoard, stood_count};
 ghost use Rattle.tree_change.specs.Inside.Resuming.{Resumes, calls_now, calls_before};
 
 use crate::again::Again;

@@ -5,7 +5,8 @@ ghost use Rattle.meaning.specs.Calls as calls;
 ghost use Rattle.meaning.specs.Lines.{row_in, all_finished};
 ghost use Rattle.meaning.specs.Pods.{pod_made, retry_made};
 ghost use Rattle.wf_manifest.specs.Valid.{limit_fits};
-ghost use Rattle.tree_change.specs.Entered.{IsRunning, place_of};
+ghost use Rattle.growth.specs.Ticks.{place_of};
+ghost use Rattle.tree_change.specs.Entered.{IsRunning};
 ghost use Rattle.tree_change.specs.Open.{unlocked};
 ghost use Rattle.tree_change.specs.Changes.{IfGiven};
 

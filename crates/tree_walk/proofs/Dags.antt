@@ -22,7 +22,7 @@ use Rattle.dag_plan.specs.Plans.{IsPlan}
 use Rattle.dag_board.specs.declared.board.Board.{Board}
 use Rattle.dag_board.specs.Ends.{Makes}
 use Rattle.tree_walk.specs.Walkable.{IsNamed, IsWalkableDag}
-use Rattle.tree_walk.specs.Inside.Tasks.{count_at, GivesBoard}
+use Rattle.tree_walk.specs.Tasks.{count_at, GivesBoard}
 use Rattle.tree_walk.proofs.Sums.{counted_in_order}
 
 pub named_at : (ts : List Task) → All (λ t. IsNamed t.call) ts → (i : ℕ) (t : Task) → slice_get ts i ≡ Some t → IsTrue (is_step_name t.call.name)

@@ -6,7 +6,7 @@ use Rattle.meaning.specs.Dags.{Standing, waiting, ready, exists, Standings, task
 use Rattle.meaning.specs.Lines.{Parts}
 use Rattle.tree_state.specs.Counting.{count_below}
 use Rattle.dag_board.specs.Boards.{stood}
-use Rattle.tree_walk.specs.Inside.Tasks.{stood_count, count_at}
+use Rattle.tree_walk.specs.Tasks.{stood_count, count_at}
 
 -- the nodes of all tasks
 abbrev total : Standings → ℕ

@@ -23,7 +23,7 @@ use Rattle.dag_board.specs.declared.board.Board.{Board}
 use Rattle.dag_board.specs.Boards.{IsBoard, IsTurn, stands_at, seen_by, stood}
 use Rattle.dag_board.specs.Turns.{Tells, Begins, Omits, IsReady, WaitingIsShown}
 use Rattle.scope_laws.specs.Agreeing.{Agree}
-use Rattle.tree_walk.specs.Inside.Tasks.{stood_count, count_at, GivesTask, GivesBoard}
+use Rattle.tree_walk.specs.Tasks.{stood_count, count_at, GivesTask, GivesBoard}
 use Rattle.tree_walk.proofs.Sums.{count_next, count_start}
 
 pub got : (xs : List ℕ) (k x : ℕ) → slice_get xs k ≡ Some x → get_or xs k 0 ≡ x

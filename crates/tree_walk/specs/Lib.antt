@@ -1,6 +1,6 @@
-pub mod Inside
 pub mod Index
 pub mod Planned
+pub mod Tasks
 pub mod Walkable
 pub mod Walking
 pub use Rattle.wf_manifest.specs.Valid

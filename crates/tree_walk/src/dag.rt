@@ -8,7 +8,7 @@ ghost use Rattle.tree_walk.specs.Walkable.{IsWalkableDag};
 ghost use Rattle.tree_walk.specs.Index.{IsReady};
 ghost use Rattle.dag_plan.specs.Plans.{IsPlan};
 ghost use Rattle.dag_board.specs.Boards.{IsBoard, IsTurn, stands_at, seen_by};
-ghost use Rattle.tree_walk.specs.Inside.Tasks.{GivesTask, GivesBoard, stood_count};
+ghost use Rattle.tree_walk.specs.Tasks.{GivesTask, GivesBoard, stood_count};
 
 use crate::Walk;
 use crate::over::{Listed, begins};

@@ -27,7 +27,7 @@ use Rattle.tree_walk.proofs.Rooms.{gives_as, by_err, part_fails, few_in_row}
 use Rattle.meaning.specs.Dags.{standings, dag_made}
 use Rattle.locality.specs.Answered.{SameBut}
 use Rattle.dag_board.specs.Boards.{IsBoard, stands_at}
-use Rattle.tree_walk.specs.Inside.Tasks.{stood_count, count_at, GivesBoard}
+use Rattle.tree_walk.specs.Tasks.{stood_count, count_at, GivesBoard}
 use Rattle.tree_walk.proofs.Tasks.{is_low, tasks_next, tasks_fail}
 use Rattle.tree_walk.proofs.Dags.{named_at, dag_fails, dag_done}
 use Rattle.tree_change.specs.Inside.Resuming.{calls_now}

@@ -3,7 +3,7 @@ use Rattle.std.proofs.Common.{◌≡◌, ◌+◌, ◌*◌, length, take}
 use Rattle.meaning.specs.Dags.{standings}
 use Rattle.meaning.specs.Calls.{calls}
 use Rattle.dag_board.specs.Boards.{IsBoard}
-use Rattle.tree_walk.specs.Inside.Tasks.{count_at}
+use Rattle.tree_walk.specs.Tasks.{count_at}
 use Rattle.row_states.specs.Rows.{count_row}
 use Rattle.tree_change.specs.Inside.Groups.{IsFront, first_groups}
 use Rattle.tree_change.proofs.Fronts.{Went}

@@ -3,7 +3,7 @@ use Rattle.std.proofs.Common.{◌≡◌, true, refl, sym, ap, ◌∙◌}
 use Rattle.meaning.specs.declared.lines.Place.{Place}
 use Rattle.meaning.specs.Pods.{pod_made, retry_made}
 use Rattle.meaning.specs.Calls.{template_made, calls}
-use Rattle.tree_change.specs.Entered.{place_of}
+use Rattle.growth.specs.Ticks.{place_of}
 use Rattle.tree_change.specs.Open.{unlocked}
 use Rattle.tree_change.proofs.Changing.{pod_template_changes, retried_template_changes}
 use Rattle.tree_change.proofs.Given.{given_by, limit_of}

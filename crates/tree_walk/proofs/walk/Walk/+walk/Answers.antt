@@ -16,7 +16,7 @@ use Rattle.meaning.specs.Dags.{standings, dag_made}
 use Rattle.dag_board.specs.Boards.{IsBoard, IsTurn, stands_at}
 use Rattle.dag_board.specs.Turns.{Tells}
 use Rattle.dag_board.proofs.Writing.{waiting_is_shown}
-use Rattle.tree_walk.specs.Inside.Tasks.{stood_count, count_at, GivesTask, GivesBoard}
+use Rattle.tree_walk.specs.Tasks.{stood_count, count_at, GivesTask, GivesBoard}
 use Rattle.tree_walk.proofs.Tasks.{got, is_low, task_waits, stands_free, task_omitted, task_no_room, task_ready, task_begun, task_fails, tasks_next, tasks_fail}
 use Rattle.tree_walk.proofs.Dags.{named_at, dag_fails, dag_done}
 use Rattle.tree_walk.proofs.walk.Walk.+walk.Goals as goal

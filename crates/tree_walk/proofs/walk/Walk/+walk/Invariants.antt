@@ -5,7 +5,7 @@ use Rattle.meaning.specs.Steps.{groups_from}
 use Rattle.meaning.specs.Calls.{calls, item_made}
 use Rattle.meaning.specs.Dags.{standings}
 use Rattle.dag_board.specs.Boards.{IsBoard}
-use Rattle.tree_walk.specs.Inside.Tasks.{count_at}
+use Rattle.tree_walk.specs.Tasks.{count_at}
 use Rattle.row_states.specs.Rows.{count_row}
 use Rattle.scope_laws.specs.Agreeing.{GroupsAlike}
 use Rattle.tree_walk.specs.Walking.{hook_depth, prefix_of}

@@ -1,4 +1,4 @@
--- How many nodes stand for the tasks of a DAG, and what the functions that go through them answer.
+-- How many nodes stand for the tasks of a DAG, and what is told of a room that they take.
 use Rattle.std.specs.Prelude.{◌≡◌, ℕ, ◌+◌, ◌<◌, List, [], ◌∷◌, Result, Ok, Err}
 use Rattle.wf_manifest.specs.declared.calls.Dag.{Dag}
 use Rattle.scopes.specs.Substitution.{Scope}
