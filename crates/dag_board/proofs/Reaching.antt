@@ -54,6 +54,7 @@ module _ (d : Dag) (plan : DagPlan) (p : IsPlan d plan) where
     behind = λ k low. all_each (Contains (take k plan.order)) (row plan.rows (get_or plan.order k 0)) (λ q a. before k low q a);
     within = subst (λ (n : ℕ). All (λ v. v < n) plan.order) (sym p.long) p.order.within;
     whole = λ v low. p.order.whole v (omega (arith, p.long, low));
+    once = p.order.once;
   }
     where
       before : (k : ℕ) → k < length plan.order → (q : ℕ) → Among q (row plan.rows (get_or plan.order k 0)) → Contains (take k plan.order) q

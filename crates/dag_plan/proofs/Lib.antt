@@ -4,7 +4,6 @@ pub mod Positions
 mod Marking
 mod Gathering
 pub mod Waiting
-mod Keeping
 pub mod Spreading
 pub mod Ancestry
 pub mod Planned

@@ -29,14 +29,14 @@ none_marked n p =
     ]
 
 -- one more mark
-pub one_stays : (marks : List Bool) (q p : ℕ) → is_marked marks p ≡ true → is_marked (set marks q true) p ≡ true
+one_stays : (marks : List Bool) (q p : ℕ) → is_marked marks p ≡ true → is_marked (set marks q true) p ≡ true
 one_stays marks q p e =
     elim (same_or p q) [
       | inl same ↦ subst (λ x. is_marked (set marks q true) x ≡ true) (sym same) (get_or-set_same marks q true false (subst (λ x. x < length marks) same (marked_within marks p e)))
       | inr other ↦ get_or-set_other marks q p true false other ∙ e
     ]
 
-pub one_only : (marks : List Bool) (q p : ℕ) → is_marked (set marks q true) p ≡ true → (is_marked marks p ≡ true) ⊎ (q ≡ p)
+one_only : (marks : List Bool) (q p : ℕ) → is_marked (set marks q true) p ≡ true → (is_marked marks p ≡ true) ⊎ (q ≡ p)
 one_only marks q p e =
     elim (same_or p q) [
       | inl same ↦ inr (sym same)

@@ -1,7 +1,7 @@
 -- A plan of rows, an order, targets and marks.
-use Rattle.std.proofs.Common.{◌≡◌, ◌≢◌, ◌⊎◌, ℕ, zero, suc, ◌+◌, ◌<◌, List, [], ◌∷◌, length, map, get_or, take, fold, replicate, Bool, true, false, not, ◌&&◌, ◌||◌, cond, Option, Some, None, refl, sym, ap, ◌∙◌, subst, inl, inr, arith}
+use Rattle.std.proofs.Common.{◌≡◌, ◌⊎◌, ℕ, zero, suc, ◌+◌, ◌<◌, List, [], ◌∷◌, length, map, get_or, take, fold, replicate, Bool, true, false, not, ◌&&◌, ◌||◌, cond, Option, Some, None, refl, sym, ap, ◌∙◌, subst, inl, inr, arith}
 use Rattle.std.specs.Prelude.{bytes_eq, slice_get, filter, IfSome}
-use Rattle.std.specs.List.{All, AllByRecursion, AllPairs, Contains, list_any, list_all}
+use Rattle.std.specs.List.{All, AllByRecursion, Contains, list_any, list_all}
 use Rattle.std.proofs.lemmas.Bool.{cases_lt}
 use Rattle.std.proofs.lemmas.Option.{slice_get_within, slice_get_cases}
 use Rattle.std.proofs.lemmas.List.{length-map, ext_get_or, length-replicate, get_or_default, get_or_past}
@@ -147,11 +147,11 @@ module _ (d : Dag) (differ : all_differ (task_names d) ≡ true) (there : tasks_
 
   -- ---- the order
 
-  pub is_order : (order : List ℕ) → orders.IsOrder rows order → AllPairs ◌≢◌ order → IsOrder ts order
-  is_order order o once = record {
+  pub is_order : (order : List ℕ) → orders.IsOrder rows order → IsOrder ts order
+  is_order order o = record {
     within = λ k e low. (let below : get_or order k e < length rows = o.within k e low in omega (arith, rows_are_long));
     whole = λ p low. o.whole p (omega (arith, rows_are_long));
-    once = once;
+    once = o.once;
     behind = λ k t low at. each_among (λ n. IfSome (first ts n) (Contains (take k order))) (waits_for t) (λ n a. one k t low at n a (first ts n) refl);
   }
     where
@@ -284,13 +284,13 @@ module _ (d : Dag) (differ : all_differ (task_names d) ≡ true) (there : tasks_
           ∙ sym (map_at (is_meant d) ts false p t at)
 
   pub planned :
-      (plan : DagPlan) → plan.rows ≡ rows → orders.IsOrder rows plan.order → AllPairs ◌≢◌ plan.order → plan.targets ≡ goals →
+      (plan : DagPlan) → plan.rows ≡ rows → orders.IsOrder rows plan.order → plan.targets ≡ goals →
       AreFound rows goals plan.meant → length plan.behind ≡ length rows →
       ((p : ℕ) → p < length rows → get_or plan.behind p [] ≡ rows_with p 0 rows) → IsPlan d plan
-  planned plan rows_is o once targets_is f long each = record {
+  planned plan rows_is o targets_is f long each = record {
     ranked = h;
     own = own;
-    order = is_order plan.order o once;
+    order = is_order plan.order o;
     meant = meant_are plan.meant f;
     long = ap (λ (rs : List (List ℕ)). length rs) rows_is ∙ rows_are_long;
     rows = λ p t at. subst (λ (rs : List (List ℕ)). AreAt ts (waited t) (get_or rs p [])) (sym rows_is) (are_rows p t at);

@@ -3,7 +3,6 @@
 
 mod behind;
 mod marks;
-mod once;
 mod order;
 mod plan;
 mod spread;

@@ -1,10 +1,8 @@
 //! An order in which each task stands behind those that it waits for.
 
-ghost use Rattle.std.specs.Prelude.{◌≢◌, ℕ, IfOk};
-ghost use Rattle.std.specs.List.{AllPairs};
+ghost use Rattle.std.specs.Prelude.{ℕ, IfOk};
 ghost use Rattle.task_order.specs.Orders.{AreWithin, Reaches, IsOrder};
 
-use crate::once::each_once;
 use base_types::{List, Memory};
 use std::alloc::Global;
 use task_order::order_of;
@@ -13,11 +11,10 @@ use task_order::order_of;
 pub(crate) fn places_in_order(alloc: Global, rows: &[List<usize>]) -> Result<List<usize>, Memory>
     requires within { AreWithin rows.now }
     requires no_circle { (p : ℕ) → ¬ (Reaches rows.now p p) }
-    ensures order { IfOk result (λ order. IsOrder rows.now order) }
-    ensures once { IfOk result (λ order. AllPairs ◌≢◌ order) }
+    ensures { IfOk result (λ order. IsOrder rows.now order) }
 {
     match order_of(alloc, rows)? {
-        Some(order) => each_once(alloc, rows, order.as_slice()),
+        Some(order) => Ok(List::from_vec(order)),
         None => unreachable!(),
     }
 }

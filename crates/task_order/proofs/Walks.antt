@@ -3,6 +3,7 @@ use Rattle.std.proofs.Common.{◌≡◌, ◌≢◌, ℕ, ◌+◌, ◌-◌, ◌<�
 use Rattle.std.proofs.lemmas.Bool.{cases_lt}
 use Rattle.std.proofs.lemmas.List.{get_or_default, get_or_past, get_or_append_left, get_or_push, get_or-replicate, get_or-set_same, get_or-set_other, get_or-take, length-set, length-take, length-replicate, length_push, take-append-le, take_all}
 use Rattle.std.proofs.lemmas.List.Elements.{All-push, All-take, All-get_or, Contains-push, Contains-append_left}
+use Rattle.std.proofs.lemmas.List.Quantifiers.{all_pairs_push}
 use Rattle.std.proofs.lemmas.List.Sums.{sum_by-set}
 use Rattle.std.specs.List.{All, Contains, sum_by}
 use Rattle.task_order.specs.declared.stage.Stage.{Stage}
@@ -52,8 +53,12 @@ module _ (waits : List (List ℕ)) where
     passed_within = λ v. let none = no_passed v in omega (arith, none);
     passed_done = λ v k low. absurd (let none = no_passed v in omega (arith, none));
     done_ordered = λ v is. absurd (let new = all_new v in let both : New ≡ Done = sym new ∙ is in cc);
+    order_done = λ k d low. absurd (omega (arith, ap length order_is));
+    order_once = λ i j d less low. absurd (omega (arith, ap length order_is));
     behind = λ k low. absurd (omega (arith, ap length order_is));
     open_met = λ v is. absurd (let new = all_new v in let both : New ≡ Open = sym new ∙ is in cc);
+    trail_open = λ k d low. absurd (omega (arith, ap length open_is));
+    trail_once = λ i j d less low. absurd (omega (arith, ap length open_is));
     path = λ i j less low. absurd (omega (arith, ap length open_is));
   }
     where
@@ -78,6 +83,9 @@ module _ (waits : List (List ℕ)) where
       all_new v = ap (λ ss. stage ss v) stages_are ∙ none_met (length waits) v
 
   module _ (stages : List Stage) (passed order trail : List ℕ) (s : Sound waits stages passed order trail) where
+    not_both : (v : ℕ) (a b : Stage) → stage stages v ≡ a → stage stages v ≡ b → a ≢ b → ⊥
+    not_both v a b is_a is_b differ = differ (sym is_a ∙ is_b)
+
     -- ---- a place is opened
 
     pub sound_begun : (v : ℕ) → v < length waits → stage stages v ≡ New → ((i : ℕ) → i < length trail → Reaches waits v (get_or trail i 0)) → Sound waits (set stages v Open) passed order (trail ++ v ∷ [])
@@ -89,8 +97,15 @@ module _ (waits : List (List ℕ)) where
       passed_within = s.passed_within;
       passed_done = λ u k low. stage_kept stages v (get_or (row waits u) k 0) Open New Done new (λ e. absurd cc) (s.passed_done u k low);
       done_ordered = λ u is. s.done_ordered u (stage_before stages v u Open Done in_stages (λ e. absurd cc) is).1;
+      order_done = λ k d low. stage_kept stages v (get_or order k d) Open New Done new (λ e. absurd cc) (s.order_done k d low);
+      order_once = s.order_once;
       behind = s.behind;
       open_met = λ u is. opened u is;
+      trail_open =
+          All-push (λ u. stage (set stages v Open) u ≡ Open) trail v
+          (λ k d low. stage_kept stages v (get_or trail k d) Open New Open new (λ e. absurd cc) (s.trail_open k d low))
+          (stage_same stages v Open in_stages);
+      trail_once = all_pairs_push ◌≢◌ trail v s.trail_once (λ k d low same. not_both v Open New (ap (stage stages) (sym same) ∙ s.trail_open k d low) new (λ e. absurd cc));
       path = λ i j less low. way i j less low;
     }
       where
@@ -128,8 +143,12 @@ module _ (waits : List (List ℕ)) where
       passed_within = λ u. low u;
       passed_done = λ u k less. met u k less;
       done_ordered = s.done_ordered;
+      order_done = s.order_done;
+      order_once = s.order_once;
       behind = s.behind;
       open_met = s.open_met;
+      trail_open = s.trail_open;
+      trail_once = s.trail_once;
       path = s.path;
     }
       where
@@ -163,8 +182,12 @@ module _ (waits : List (List ℕ)) where
       passed_within = s.passed_within;
       passed_done = λ u k low. stays (get_or (row waits u) k 0) (s.passed_done u k low);
       done_ordered = λ u is. ordered u is;
+      order_done = All-push (λ u. stage (set stages v Done) u ≡ Done) order v (λ k d low. stays (get_or order k d) (s.order_done k d low)) (stage_same stages v Done in_stages);
+      order_once = all_pairs_push ◌≢◌ order v s.order_once (λ k d low same. not_both v Open Done is_open (ap (stage stages) (sym same) ∙ s.order_done k d low) (λ e. absurd cc));
       behind = λ k low. stands k low;
       open_met = λ u is. opened u is;
+      trail_open = λ k d low. still_open k d low;
+      trail_once = λ i j d less low. apart i j d less low;
       path = λ i j less low. way i j less low;
     }
       where
@@ -173,6 +196,25 @@ module _ (waits : List (List ℕ)) where
 
         in_stages : v < length stages
         in_stages = let long = s.stages_long in omega (arith, long)
+
+        is_open : stage stages v ≡ Open
+        is_open = subst (λ u. stage stages u ≡ Open) (sym last) (s.trail_open (length trail - 1) 0 (omega arith))
+
+        still_open : (k d : ℕ) → k < length (take (length trail - 1) trail) → stage (set stages v Done) (get_or (take (length trail - 1) trail) k d) ≡ Open
+        still_open k d low =
+            let short = length-take (length trail - 1) trail in
+            let before : k < length trail - 1 = omega (arith, short) in
+            let there : get_or (take (length trail - 1) trail) k d ≡ get_or trail k d = get_or-take (length trail - 1) trail k d before in
+            let final : get_or trail (length trail - 1) d ≡ v = get_or_default trail (length trail - 1) d 0 (omega arith) ∙ sym last in
+            subst (λ u. stage (set stages v Done) u ≡ Open) (sym there)
+            (stage_other stages v (get_or trail k d) Done (λ same. s.trail_once k (length trail - 1) d before (omega arith) (same ∙ sym final)) ∙ s.trail_open k d (omega arith))
+
+        apart : (i j d : ℕ) → i < j → j < length (take (length trail - 1) trail) → get_or (take (length trail - 1) trail) i d ≢ get_or (take (length trail - 1) trail) j d
+        apart i j d less low same =
+            let short = length-take (length trail - 1) trail in
+            let at_j : get_or (take (length trail - 1) trail) j d ≡ get_or trail j d = get_or-take (length trail - 1) trail j d (omega (arith, short)) in
+            let at_i : get_or (take (length trail - 1) trail) i d ≡ get_or trail i d = get_or-take (length trail - 1) trail i d (omega (arith, short)) in
+            s.trail_once i j d less (omega (arith, short)) (sym at_i ∙ same ∙ at_j)
 
         stays : (u : ℕ) → stage stages u ≡ Done → stage (set stages v Done) u ≡ Done
         stays u is =
@@ -257,6 +299,7 @@ module _ (waits : List (List ℕ)) where
       behind = s.behind;
       within = s.order_within;
       whole = λ v below. s.done_ordered v (must_be_done v (stage stages v) refl (met v below));
+      once = s.order_once;
     }
       where
         not_open : (v : ℕ) → Contains trail v → ⊥
@@ -266,7 +309,8 @@ module _ (waits : List (List ℕ)) where
         must_be_done v New is differs = absurd (differs refl)
         must_be_done v Open is differs = absurd (not_open v (s.open_met v is))
         must_be_done v Done is differs = is
-        -- ---- the work
+
+-- ---- the work
 
 pub new_less : (stages : List Stage) (v n : ℕ) → v < length stages → stage stages v ≡ New → sum_by weight (set stages v Open) + (n + 1) < sum_by weight stages + n
 new_less stages v n below is =

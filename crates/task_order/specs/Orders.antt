@@ -1,6 +1,6 @@
 -- Tasks by the places of their names, and places in an order in which each stands behind those that it waits for.
-use Rattle.std.specs.Prelude.{ℕ, ◌<◌, List, [], length, take, Option, Some, None, position, bytes_eq, get_or}
-use Rattle.std.specs.List.{All, Contains, filter_map}
+use Rattle.std.specs.Prelude.{◌≢◌, ℕ, ◌<◌, List, [], length, take, Option, Some, None, position, bytes_eq, get_or}
+use Rattle.std.specs.List.{All, AllPairs, Contains, filter_map}
 use Rattle.depends_expr.specs.Expression.{Expression}
 use Rattle.depends_expr.specs.Truth.{names_of}
 use Rattle.wf_manifest.specs.declared.calls.Task.{Task}
@@ -40,7 +40,9 @@ abbrev pub StandsBehind : List (List ℕ) → List ℕ → Type 0
 StandsBehind waits order =
     (k : ℕ) → k < length order → All (Contains (take k order)) (row waits (get_or order k 0))
 
+-- all places, each once
 pub record IsOrder (waits : List (List ℕ)) (order : List ℕ) : Type 0 where
   pub behind : StandsBehind waits order
   pub within : All (λ v. v < length waits) order
   pub whole : (v : ℕ) → v < length waits → Contains order v
+  pub once : AllPairs ◌≢◌ order

@@ -7,7 +7,7 @@ use crate::walk::Walk;
 use base_types::{List, Memory};
 use std::alloc::Global;
 
-/// The places in order; `None` where one reaches itself.
+/// The places, each once and in order; `None` where one reaches itself.
 pub fn order_of(alloc: Global, waits: &[List<usize>]) -> Result<Option<Vec<usize>>, Memory>
     requires { AreWithin waits.now }
     ensures some { IfOk result (λ found. IfSome found (λ order. IsOrder waits.now order.items)) }

@@ -1,7 +1,7 @@
 -- Marks on positions.
-use Rattle.std.specs.Prelude.{◌≡◌, ◌≢◌, ◌↔◌, ℕ, suc, ◌<◌, List, [], ◌∷◌, length, Bool, true, false, IsTrue, if◌then◌else◌, get_or, slice_set, fold, replicate}
-use Rattle.std.specs.List.{All, AllPairs, Contains}
-use Rattle.task_order.specs.Orders.{row, places, StandsBehind}
+use Rattle.std.specs.Prelude.{◌≡◌, ◌↔◌, ℕ, suc, List, [], ◌∷◌, length, Bool, true, false, IsTrue, if◌then◌else◌, get_or, slice_set, fold, replicate}
+use Rattle.std.specs.List.{Contains}
+use Rattle.task_order.specs.Orders.{row, places}
 
 abbrev pub is_marked : List Bool → ℕ → Bool
 is_marked marks p = get_or marks p false
@@ -28,15 +28,6 @@ pub data Found (rows : List (List ℕ)) (targets : List ℕ) : ℕ → Type 0 wh
 pub record AreFound (rows : List (List ℕ)) (targets : List ℕ) (marks : List Bool) : Type 0 where
   pub long : length marks ≡ length rows
   pub exact : (p : ℕ) → IsTrue (is_marked marks p) ↔ Found rows targets p
-
--- places that were met, each once and behind those in its row
-pub record MetOnce (rows : List (List ℕ)) (met : List ℕ) (bits : List Bool) (out : List ℕ) : Type 0 where
-  pub long : length bits ≡ length rows
-  pub marks : (p : ℕ) → p < length rows → IsTrue (is_marked bits p) ↔ Contains out p
-  pub whole : (p : ℕ) → Contains met p → Contains out p
-  pub within : All (λ p. p < length rows) out
-  pub once : AllPairs ◌≢◌ out
-  pub behind : StandsBehind rows out
 
 -- the places that stand in no row
 abbrev pub last_places : List (List ℕ) → List ℕ

@@ -1,6 +1,6 @@
 -- What a walk over places keeps.
-use Rattle.std.specs.Prelude.{◌≡◌, ℕ, ◌<◌, ◌≤◌, ◌+◌, List, [], length, get_or, Bool, true, false}
-use Rattle.std.specs.List.{All, Contains, sum_by}
+use Rattle.std.specs.Prelude.{◌≡◌, ◌≢◌, ℕ, ◌<◌, ◌≤◌, ◌+◌, List, [], length, get_or, Bool, true, false}
+use Rattle.std.specs.List.{All, AllPairs, Contains, sum_by}
 use Rattle.task_order.specs.declared.stage.Stage.{Stage}
 use Rattle.task_order.specs.declared.stage.Stage.TheVariants.{New, Open, Done}
 use Rattle.task_order.specs.declared.walk.Walk.{Walk}
@@ -9,7 +9,8 @@ use Rattle.task_order.specs.Orders.{row, Reaches, StandsBehind}
 abbrev pub stage : List Stage → ℕ → Stage
 stage stages v = get_or stages v New
 
--- those that were passed are done, those that are done stand in order, and of the open ones each reaches the later ones
+-- those that were passed are done, those that are done stand once in order, those that are open stand once on the trail, and
+-- the later ones of these reach the earlier ones
 pub record Sound (waits : List (List ℕ)) (stages : List Stage) (passed order trail : List ℕ) : Type 0 where
   pub stages_long : length stages ≡ length waits
   pub passed_long : length passed ≡ length waits
@@ -18,8 +19,12 @@ pub record Sound (waits : List (List ℕ)) (stages : List Stage) (passed order t
   pub passed_within : (v : ℕ) → get_or passed v 0 ≤ length (row waits v)
   pub passed_done : (v k : ℕ) → k < get_or passed v 0 → stage stages (get_or (row waits v) k 0) ≡ Done
   pub done_ordered : (v : ℕ) → stage stages v ≡ Done → Contains order v
+  pub order_done : All (λ v. stage stages v ≡ Done) order
+  pub order_once : AllPairs ◌≢◌ order
   pub behind : StandsBehind waits order
   pub open_met : (v : ℕ) → stage stages v ≡ Open → Contains trail v
+  pub trail_open : All (λ v. stage stages v ≡ Open) trail
+  pub trail_once : AllPairs ◌≢◌ trail
   pub path : (i j : ℕ) → i < j → j < length trail → Reaches waits (get_or trail j 0) (get_or trail i 0)
 
 abbrev pub IsSound : List (List ℕ) → Walk → Type 0

@@ -73,8 +73,7 @@ returns c =
     planned d r.differ r.there r.ranked
     (record { order = c.in_ok-order.order; meant = c.from_vec.result; rows = c.in_ok-rows.rows; behind = c.in_ok-behind.behind; targets = c.in_ok-targets.targets })
     told
-    (subst (λ (rs : List (List ℕ)). IsOrder rs c.in_ok-order.order) (c.as_slice.ensures ∙ told) c.in_ok-order.ensures.order)
-    c.in_ok-order.ensures.once
+    (subst (λ (rs : List (List ℕ)). IsOrder rs c.in_ok-order.order) (c.as_slice.ensures ∙ told) c.in_ok-order.ensures)
     found
     (subst (AreFound (rows d r.differ r.there r.ranked) (goals d r.differ r.there r.ranked)) (sym c.from_vec.ensures)
     (subst (λ (gs : List ℕ). AreFound (rows d r.differ r.there r.ranked) gs c.in_ok-meant.meant.items) (c.as_slice-6.ensures ∙ found)
