@@ -15,8 +15,9 @@ use Rattle.next_step.specs.Next.{get, act, done, next_by, worker_next}
 use Rattle.next_step.specs.Replies.{Reply, found, accepted, no_object, exists, conflict, fault, ended, by_absence, by_refusal, after}
 use Rattle.next_step.specs.Runner.{finish, not_due, due_at, by_plan, by_outcome, runner_next}
 use Rattle.next_step.specs.Calls.{Got}
+use Rattle.next_step.specs.Plays.{EndsJob}
 use Rattle.next_laws.specs.Fresh.{Fresh, NextIs}
-use Rattle.next_laws.specs.Jobs.{UndisturbedGoesWell, StillEnd, as_done, as_full, as_absent, WorkerRan, Rests, RunnerRan, StillRound, StillRoundIsIdle}
+use Rattle.next_laws.specs.Jobs.{UndisturbedGoesWell, StillEnd, as_done, as_full, as_absent, WorkerRan, RunnerRan, StillRound, StillRoundIsIdle}
 use Rattle.next_laws.proofs.Agreeing.{fresh_acts_are_due}
 use Rattle.next_laws.proofs.Gets.{OwnKey, own_key}
 use Rattle.next_laws.proofs.Going.{not_ended, get_goes}
@@ -93,10 +94,10 @@ worker_idle D h l w f st r = by r.end
 is_later : (a b : ℕ) → nat_le a b ≡ false → b < a
 is_later a b h = grind (arith, nat_tests)
 
-rests_later : (D : Document) (w name : Text) (x : Seen PodObject) (p : PlannedOutcome) → x.content.outcome ≡ None → D.planned w name ≡ Some p → Rests (runner_next D w name (Some x)) → x.tick < due_at x p
-rests_later D w name x p u q r = by (nat_le (due_at x p) x.tick) refl (subst (λ o. Rests (by_plan x o)) q (subst (λ o. Rests (by_outcome D w name x o)) u r))
+rests_later : (D : Document) (w name : Text) (x : Seen PodObject) (p : PlannedOutcome) → x.content.outcome ≡ None → D.planned w name ≡ Some p → EndsJob (runner_next D w name (Some x)) → x.tick < due_at x p
+rests_later D w name x p u q r = by (nat_le (due_at x p) x.tick) refl (subst (λ o. EndsJob (by_plan x o)) q (subst (λ o. EndsJob (by_outcome D w name x o)) u r))
   where
-    by : (b : Bool) → nat_le (due_at x p) x.tick ≡ b → Rests (cond b (finish (ended_by p x.content.begin x.tick)) (not_due (due_at x p))) → x.tick < due_at x p
+    by : (b : Bool) → nat_le (due_at x p) x.tick ≡ b → EndsJob (cond b (finish (ended_by p x.content.begin x.tick)) (not_due (due_at x p))) → x.tick < due_at x p
     by true t r = absurd r
     by false t r = is_later (due_at x p) x.tick t
 

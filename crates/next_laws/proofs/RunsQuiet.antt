@@ -17,12 +17,12 @@ use Rattle.next_step.specs.Views.{Seen, Views, nothing}
 use Rattle.next_step.specs.Next.{get, act}
 use Rattle.next_step.specs.Changes.{change_of, ShownAt, ViewsOf}
 use Rattle.next_step.specs.Replies.{Reply, found, accepted, no_object, exists, conflict, fault, Ending, by_absence, ended, seen, taken, there, after}
-use Rattle.next_step.specs.Runner.{RunNext, read, finish, already_finished, no_outcome, not_due, finish_change}
+use Rattle.next_step.specs.Runner.{finish_change}
 use Rattle.next_step.specs.Calls.{Got, Did, Undisturbed}
 use Rattle.next_step.specs.Hands.{Given, for_flow, for_pod}
-use Rattle.next_step.specs.Plays.{EndsJob, tick_event}
+use Rattle.next_step.specs.Plays.{tick_event}
 use Rattle.next_step.specs.Rounds.{submitted_by, if_unfinished, created_by, jobs_of, faults_of, WorkerEnds, by_done, by_full, by_get, by_change, pod_of_reply, JobRan, worker_ran, runner_missed, runner_rested, runner_finished, JobsRan, no_more, one_more, entries_in, RunRan, last_round, next_round, then_ticks, tick_fails}
-use Rattle.next_laws.specs.Jobs.{StillEnd, as_done, as_full, as_absent, WorkerRan, Rests, RunnerRan, StillRound}
+use Rattle.next_laws.specs.Jobs.{StillEnd, as_done, as_full, as_absent, WorkerRan, RunnerRan, StillRound}
 use Rattle.next_laws.specs.Ends.{RunEndsQuiet}
 use Rattle.next_laws.proofs.Reasons.{reason}
 use Rattle.next_laws.proofs.Keeping.{did_extends, goes_on_from, no_conflict, stays_fresh, fresh_nothing}
@@ -179,13 +179,6 @@ worker_of D h g job calls faults valid l (runner_finished x name r s y o i got k
 
 -- ---- a runner's
 
-ends_rests : (r : RunNext) → EndsJob r → Rests r
-ends_rests read e = absurd e
-ends_rests (finish o) e = absurd e
-ends_rests already_finished e = tt
-ends_rests no_outcome e = tt
-ends_rests (not_due t) e = tt
-
 pod_shown : (h : Story) (w name : Text) (r : Reply) (x : Seen PodObject) → Got h (Pod w name) r → pod_of_reply r ≡ Some x → ShownAt h (Pod w name) x.number (OfPod x.content) x.tick
 pod_shown h w name (found y) x g e = by y.content refl e
   where
@@ -240,7 +233,7 @@ runner_of D h g job calls faults (runner_missed x m r got k) z e w name pod q s 
 runner_of D h g job calls faults (runner_rested x m r y got k n) z e w name pod q s =
     let a : x ≡ w = cc in
     let b : m ≡ name = cc in
-    subst (RunnerRan D h w) b (subst (λ v. RunnerRan D h v m) a record { view = y; shown = pod_shown h x m r y got k; rests = ends_rests _ n })
+    subst (RunnerRan D h w) b (subst (λ v. RunnerRan D h v m) a record { view = y; shown = pod_shown h x m r y got k; rests = n })
 runner_of D h g job calls faults (runner_finished x m r t y o i got k n d) z e w name pod q s =
     not_finished h g x m y o t (pod_shown h x m r y got k) d z (ap entries_in e)
 

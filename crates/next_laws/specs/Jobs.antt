@@ -13,8 +13,9 @@ use Rattle.next_step.specs.Views.{Seen, Views, nothing}
 use Rattle.next_step.specs.Next.{get, act, done, worker_next}
 use Rattle.next_step.specs.Changes.{change_of, ShownAt}
 use Rattle.next_step.specs.Replies.{Reply, conflict, ended, by_absence, after}
-use Rattle.next_step.specs.Runner.{RunNext, read, finish, already_finished, no_outcome, not_due, runner_next}
+use Rattle.next_step.specs.Runner.{runner_next}
 use Rattle.next_step.specs.Calls.{Got, Did, Undisturbed}
+use Rattle.next_step.specs.Plays.{EndsJob}
 use Rattle.next_laws.specs.Fresh.{Fresh}
 
 abbrev pub IsConflict : Reply → Type 0
@@ -54,18 +55,11 @@ pub record WorkerRan (D : Document) (h : Story) (w : Text) : Type 0 where
   pub ran : Undisturbed D w h nothing h views
   pub end : StillEnd D h w views
 
--- a runner ends its job without a write
-abbrev pub Rests : RunNext → Type 0
-Rests read = ⊥
-Rests (finish o) = ⊥
-Rests already_finished = Unit {0}
-Rests no_outcome = Unit {0}
-Rests (not_due t) = Unit {0}
-
+-- a runner that ends its job without a write
 pub record RunnerRan (D : Document) (h : Story) (w name : Text) : Type 0 where
   pub view : Seen PodObject
   pub shown : ShownAt h (of_key.Pod w name) view.number (OfPod view.content) view.tick
-  pub rests : Rests (runner_next D w name (Some view))
+  pub rests : EndsJob (runner_next D w name (Some view))
 
 -- each workflow and each unfinished pod had its job, and the history is as it was
 pub record StillRound (D : Document) (h : Story) : Type 0 where
