@@ -1,7 +1,7 @@
 -- The kinds of values. The JSON types are those of the field reference; the refusals are this project's own.
 use Rattle.std.specs.Prelude.{ℕ, suc, nat_lt, ℤ, pos, negsuc, int_lt, Bool, ◌||◌, if◌then◌else◌}
 use Rattle.std.specs.Prelude.{List, [], ◌∷◌, Option, Some, None, Ok, option_and_then}
-use Rattle.serde_json.specs.Data.{Data, array, object, Items, no_items, item}
+use Rattle.serde_json.specs.Data.{Data, object, Items, no_items, item}
 use Rattle.serde_json.specs.Events.{items_len}
 use Rattle.json_fields.specs.Paths.{Path, member_of}
 use Rattle.json_fields.specs.Kinds as is
@@ -17,11 +17,6 @@ any_text at d = or_wrong at (is.any_text d)
 
 abbrev pub flag : Kind Bool
 flag at d = or_wrong at (is.flag d)
-
--- a list, as it stands
-abbrev pub json_list : Kind Data
-json_list at (array ds) = Ok (array ds)
-json_list at _ = refuse_by rules.wrong_kind at
 
 -- an object, as it stands
 abbrev pub json_object : Kind Data

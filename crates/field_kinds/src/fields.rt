@@ -3,11 +3,10 @@
 ghost use Rattle.std.specs.Prelude.{◌≡◌, [], option_map};
 ghost use Rattle.serde_json.specs.View.{view};
 ghost use Rattle.field_kinds.specs.Refusing.{Reads, Shows};
-ghost use Rattle.field_kinds.specs.Kinds.{list_of, all_of, json_list, json_object};
+ghost use Rattle.field_kinds.specs.Kinds.{list_of, all_of, json_object};
 ghost use Rattle.field_kinds.specs.Fields.{optional, required, default, default_list};
 
-use crate::refused::{refused_at, refused_field};
-use crate::rules::{MISSING, WRONG_KIND};
+use crate::rules::MISSING;
 use crate::{KindRefused, Readable, all_of, list_of};
 use base_types::List;
 use json_fields::{FieldPath, take_object};
@@ -47,24 +46,6 @@ pub fn required<T: Readable>(
             field: path,
         }),
         Some(value) => T::read(alloc, value, &path, around),
-    }
-}
-
-/// A list of at most so many members that may be absent.
-pub fn optional_list<T: Readable>(
-    alloc: Global,
-    object: &Value,
-    name: &str,
-    most: usize,
-    at: &FieldPath,
-    around: &T::Around,
-) -> Result<Option<List<T::Made>>, KindRefused>
-    ensures { Reads result
-        (optional (list_of most (T.kind around.now)) name.now at.now (view object.now)) }
-{
-    match object.get(name) {
-        None | Some(Value::Null) => Ok(None),
-        Some(value) => Ok(Some(list_of::<T>(alloc, value, most, &at.field(name)?, around)?)),
     }
 }
 
@@ -135,25 +116,4 @@ pub fn optional_object<'a>(
         (optional json_object name.now at.now (view object.entry.now)) }
 {
     Ok(take_object(object, name, at)?)
-}
-
-/// A list as it stands.
-pub fn optional_json_list<'a>(
-    object: &'a Value,
-    name: &str,
-    at: &FieldPath,
-) -> Result<Option<&'a Value>, KindRefused>
-    ensures { Shows (option_map (λ value. view value.now)) result
-        (optional json_list name.now at.now (view object.entry.now)) }
-{
-    match object.get(name) {
-        None | Some(Value::Null) => Ok(None),
-        Some(value) => {
-            if value.is_array() {
-                Ok(Some(value))
-            } else {
-                Err(refused_field(WRONG_KIND, name, at)?)
-            }
-        }
-    }
 }

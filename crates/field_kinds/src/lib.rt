@@ -14,10 +14,7 @@ pub mod rules;
 mod texts;
 mod values;
 
-pub use fields::{
-    all_or_empty, list_or_empty, optional, optional_json_list, optional_list, optional_object,
-    required, required_list,
-};
+pub use fields::{all_or_empty, list_or_empty, optional, optional_object, required, required_list};
 pub use json_fields::FieldPath;
 pub use kinds::{AnyText, AnyTextBy, Object, TextBy, UpTo};
 pub use maps::map_of;
@@ -29,8 +26,7 @@ pub use refusing::{
     unsupported_if,
 };
 pub use texts::{
-    optional_any_text, optional_by, optional_text, optional_text_by, required_any_text,
-    required_by, required_text, required_text_by, text_by_if, text_if, written_text,
-    written_text_by, written_text_or,
+    optional_any_text, optional_by, optional_text, optional_text_by, required_by, required_text,
+    required_text_by, text_by_if, text_if, written_text, written_text_by, written_text_or,
 };
 pub use values::{all_of, list_of, members, needs_list, needs_object};

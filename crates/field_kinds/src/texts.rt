@@ -49,18 +49,6 @@ pub fn optional_any_text(
     optional::<AnyText>(alloc, object, name, at, &())
 }
 
-/// A text, a whole number or a truth value, as text, that must be there.
-pub fn required_any_text(
-    alloc: Global,
-    object: &Value,
-    name: &str,
-    at: &FieldPath,
-) -> Result<Text, KindRefused>
-    ensures { Reads result (required any_text name.now at.now (view object.now)) }
-{
-    required::<AnyText>(alloc, object, name, at, &())
-}
-
 /// What a text means by a grammar, given as any text.
 pub fn optional_by<G: Grammar>(
     alloc: Global,

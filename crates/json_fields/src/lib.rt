@@ -8,7 +8,4 @@ mod take;
 pub use base_types::Text as FieldText;
 pub use path::FieldPath;
 pub use refused::FieldRefused;
-pub use take::{
-    any_text, refuse, says_nothing, take_any_text, take_flag, take_list, take_object, take_text,
-    take_whole,
-};
+pub use take::{any_text, refuse, says_nothing, take_flag, take_object, take_whole};

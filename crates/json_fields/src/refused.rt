@@ -4,7 +4,6 @@ ghost use Rattle.std.specs.Prelude.{◌≡◌};
 
 use crate::FieldPath;
 use base_types::Memory;
-use std::alloc::AllocError;
 use thiserror::Error;
 
 /// Why a field was not taken.
@@ -24,16 +23,6 @@ impl From<Memory> for FieldRefused {
     ghost from_gives = { λ _ refused. refused ≡ refusal.Memory };
 
     fn from(_: Memory) -> Self {
-        FieldRefused::Memory
-    }
-}
-
-impl From<AllocError> for FieldRefused {
-    ghost use Rattle.json_fields.specs.declared.refused.FieldRefused.TheVariants as refusal;
-
-    ghost from_gives = { λ _ refused. refused ≡ refusal.Memory };
-
-    fn from(_: AllocError) -> Self {
         FieldRefused::Memory
     }
 }

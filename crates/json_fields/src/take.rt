@@ -1,7 +1,7 @@
 //! Fields by name and kind.
 
 ghost use Rattle.std.specs.Prelude.{◌≡◌, IfOk, option_map};
-ghost use Rattle.serde_json.specs.View.{view, items_view};
+ghost use Rattle.serde_json.specs.View.{view};
 ghost use Rattle.json_fields.specs.Paths.{field_of};
 ghost use Rattle.json_fields.specs.Kinds as kinds;
 ghost use Rattle.json_fields.specs.Fields.{Gives, field, refused, says_nothing};
@@ -10,41 +10,6 @@ use crate::{FieldPath, FieldRefused, FieldText};
 use base_types::Memory;
 use serde_json::Value;
 use std::alloc::Global;
-
-/// A text. A field that is null counts as absent, here and below, and `at` is the path of the object.
-pub fn take_text(
-    alloc: Global,
-    object: &Value,
-    name: &str,
-    at: &FieldPath,
-) -> Result<Option<FieldText>, FieldRefused>
-    ensures { Gives (λ taken. taken) result (field kinds.text name.now at.now (view object.now)) }
-{
-    match object.get(name) {
-        None | Some(Value::Null) => Ok(None),
-        Some(Value::String(text)) => Ok(Some(FieldText::from_text(alloc, text.as_str())?)),
-        Some(_) => Err(wrong_kind(name, at)?),
-    }
-}
-
-/// A text, or a whole number or a truth value as text.
-pub fn take_any_text(
-    alloc: Global,
-    object: &Value,
-    name: &str,
-    at: &FieldPath,
-) -> Result<Option<FieldText>, FieldRefused>
-    ensures { Gives (λ taken. taken) result
-        (field kinds.any_text name.now at.now (view object.now)) }
-{
-    match object.get(name) {
-        None | Some(Value::Null) => Ok(None),
-        Some(value) => match any_text(alloc, value)? {
-            Some(text) => Ok(Some(text)),
-            None => Err(wrong_kind(name, at)?),
-        },
-    }
-}
 
 /// A value as a text: a text, or a whole number or a truth value as text. None where it is of another kind.
 pub fn any_text(alloc: Global, value: &Value) -> Result<Option<FieldText>, Memory>
@@ -67,7 +32,8 @@ pub fn any_text(alloc: Global, value: &Value) -> Result<Option<FieldText>, Memor
     }
 }
 
-/// A whole number of 64 bits with a sign.
+/// A whole number of 64 bits with a sign. A field that is null counts as absent, here and below, and `at` is the path of
+/// the object.
 pub fn take_whole(object: &Value, name: &str, at: &FieldPath) -> Result<Option<i64>, FieldRefused>
     ensures { Gives (λ taken. taken) result (field kinds.whole name.now at.now (view object.now)) }
 {
@@ -87,22 +53,6 @@ pub fn take_flag(object: &Value, name: &str, at: &FieldPath) -> Result<Option<bo
     match object.get(name) {
         None | Some(Value::Null) => Ok(None),
         Some(Value::Bool(b)) => Ok(Some(*b)),
-        Some(_) => Err(wrong_kind(name, at)?),
-    }
-}
-
-/// A list.
-pub fn take_list<'a>(
-    object: &'a Value,
-    name: &str,
-    at: &FieldPath,
-) -> Result<Option<&'a [Value]>, FieldRefused>
-    ensures { Gives (option_map (λ list. items_view list.now)) result
-        (field kinds.list name.now at.now (view object.entry.now)) }
-{
-    match object.get(name) {
-        None | Some(Value::Null) => Ok(None),
-        Some(Value::Array(items)) => Ok(Some(items.as_slice())),
         Some(_) => Err(wrong_kind(name, at)?),
     }
 }
