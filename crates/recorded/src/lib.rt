@@ -2,10 +2,7 @@
 #![tactic(auto)]
 
 mod ended;
-mod journal;
-mod marks;
 mod recorded;
 
 pub use ended::Ended;
-pub use journal::JournalIndex;
 pub use recorded::{MemoAnswer, Recorded};

@@ -9,7 +9,7 @@ mod tops;
 mod whole;
 mod workflow_tree;
 
-pub use recorded::{Ended, JournalIndex, MemoAnswer, Recorded};
+pub use recorded::{Ended, MemoAnswer, Recorded};
 pub use tree_state::{Clue, NodeTest, TreeRefused, WantKind, WantTest};
 pub use whole::{Evaluated, evaluate, tree, wants};
 pub use workflow_tree::WorkflowTree;

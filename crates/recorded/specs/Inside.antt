@@ -1,2 +1,0 @@
--- What speaks only of this crate's private code.
-pub mod Marks
