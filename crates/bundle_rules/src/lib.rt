@@ -1,5 +1,5 @@
-//! The rules on a document as a whole: how many workflows it has, what it says twice, and what it names that is not there;
-//! and the limits that it gives to locks.
+//! The rules on a document as a whole: how many workflows it has, what it says twice, what it names that is not there, and
+//! the steps of its schedule; and the limits that it gives to locks.
 #![tactic(auto)]
 
 mod asked;

@@ -104,15 +104,13 @@ abbrev pub refused_but : List ℕ → Kind (Unit {0})
 refused_but but at (object ms) = refused_members but at ms
 refused_but but at _ = Ok tt
 
--- ---- which fields may be there
+-- ---- fields beside others
 
 -- neither absent nor null
 abbrev pub is_present : Option Data → Bool
 is_present None = false
 is_present (Some null) = false
 is_present (Some d) = true
-
--- ---- fields beside others
 
 -- the field is there
 abbrev pub has : List ℕ → Data → Bool
