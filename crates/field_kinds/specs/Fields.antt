@@ -1,9 +1,8 @@
 -- The fields of the object at a path. A field that is null counts as absent, as in the Kubernetes API.
 use Rattle.std.specs.Prelude.{ℕ, List, [], ◌∷◌, Option, Some, None, Ok, Err}
-use Rattle.std.specs.Prelude.{Bool, true, false, not, ◌&&◌, bytes_eq, if◌then◌else◌}
+use Rattle.std.specs.Prelude.{Bool, true, false, ◌&&◌, bytes_eq, if◌then◌else◌}
 use Rattle.serde_json.specs.Data.{Data, null, boolean, object, Members, no_members, member}
 use Rattle.serde_json.specs.Find.{get}
-use Rattle.base_types.specs.Names.{is_among}
 use Rattle.json_fields.specs.Paths.{Path, field_of}
 use Rattle.json_fields.specs.Fields.{says_nothing}
 use Rattle.field_kinds.specs.Reading.{Read, ◌>>=◌, Kind, refuse_by, or_missing, or_bad}
