@@ -3,13 +3,14 @@
 ghost use Rattle.std.specs.Prelude.{◌≡◌, ◌≢◌, ◌<◌, ◌^◌, length, Some, None, Err, IfOk};
 ghost use Rattle.io_edge.specs.Cause.{Rose};
 ghost use Rattle.history.specs.History.{event};
+ghost use Rattle.history.specs.Versions.{back_of, lag_after};
 ghost use Rattle.object_store.specs.declared.refused.StoreRefused.TheVariants.{Fault, Memory as OutOfMemory};
 ghost use Rattle.object_store.specs.Entries.{MakesObject, ChangesObject};
 ghost use Rattle.object_store.specs.Answers.{IsOf};
 ghost use Rattle.store_client.specs.Calls.{CountsOthers, WillBeJustified};
 ghost use Rattle.law.specs.Contents.{apply};
 ghost use Rattle.next_step.specs.Changes.{change as changed};
-ghost use Rattle.next_step.specs.Backward.{GotBack, back_of, lag_after};
+ghost use Rattle.next_step.specs.Backward.{GotBack};
 ghost use Rattle.next_laws.specs.Viewing.{Answers};
 ghost use Rattle.reply_laws.specs.Replies.{read_reply, change_reply, DidBehind, LeavesClient};
 ghost use Rattle.wf_object.specs.Kept.{makes, begins, justified};

@@ -11,6 +11,7 @@ use Rattle.meaning.specs.Answers.{Facts}
 use Rattle.growth.specs.Writes as writes
 use Rattle.history.specs.Keys.{is_about}
 use Rattle.history.specs.History.{Event, Version, number_of, map_content, clock_of, grown, next_version, version_at, IsVersionOf}
+use Rattle.history.specs.Versions.{back_of}
 use Rattle.history.proofs.Keys.{same_key-refl}
 use Rattle.history.proofs.Extends.{version_at-grown}
 use Rattle.history.proofs.Carrying.{still_stands, absent_at}
@@ -27,7 +28,7 @@ use Rattle.next_step.specs.Changes.{Change, change_of, AddsFor, ViewsOf, number_
 use Rattle.next_step.specs.Runner.{RunNext, read, finish, already_finished, no_outcome, not_due, due_at, by_plan, by_outcome, runner_next, finish_change}
 use Rattle.next_step.specs.Replies.{Reply, found, accepted, no_object, exists, conflict, seen}
 use Rattle.next_step.specs.Calls.{Did}
-use Rattle.next_step.specs.Backward.{GotBack, back_of}
+use Rattle.next_step.specs.Backward.{GotBack}
 use Rattle.next_step.specs.Hands.{Given, for_flow, for_pod, Hand, CallNote, answer_of}
 use Rattle.next_step.specs.Plays.{EndsJob, Stepped, has_none, gets, changes, is_full, is_done, gets_pod, finishes, ends, ScheduleStep, give_job, make_step, restart, set_lag, set_clock, Stage, Plays, gave, stepped, restarted, lagged, ticked, stayed}
 use Rattle.next_laws.specs.Playing.{HasSeen, Fails, NoneFails, IsPlayed, StepIsPlayed}

@@ -3,6 +3,7 @@ use Rattle.std.proofs.Common.{◌≡◌, ◌⊎◌, inl, inr, ℕ, zero, suc, �
 use Rattle.std.specs.Prelude.{slice_get, slice_set, replicate}
 use Rattle.tree_types.specs.declared.entry.Key.TheVariants.{Pod}
 use Rattle.history.specs.History.{Extends, grown, clock_of, IsVersionOf}
+use Rattle.history.specs.Versions.{lag_after}
 use Rattle.history.proofs.Extends.{extends_itself, extends_grown, extends_later, is_version_later, lawful-grown}
 use Rattle.law.specs.Documents.{Text, Document}
 use Rattle.law.specs.Contents.{PodObject, Content, OfWorkflow, OfPod, OfLocks, OfCaches, apply, Story, pod_in}
@@ -14,7 +15,7 @@ use Rattle.next_step.specs.Next.{get, act}
 use Rattle.next_step.specs.Changes.{change_of, ViewsOf}
 use Rattle.next_step.specs.Runner.{finish_change}
 use Rattle.next_step.specs.Replies.{Reply, found, accepted, no_object, exists, conflict, fault, Job, goes_on, ended, seen, after}
-use Rattle.next_step.specs.Backward.{GotBack, lag_after}
+use Rattle.next_step.specs.Backward.{GotBack}
 use Rattle.next_step.specs.Hands.{Given, for_flow, for_pod, Hand, idle_hand, with_job, with_pod, with_reply, CallNote}
 use Rattle.next_step.specs.Plays.{Stepped, has_none, gets, changes, is_full, is_done, gets_pod, finishes, ends, ScheduleStep, Stage, with_hand, tick_event, Plays, gave, stepped, restarted, lagged, ticked, stayed, failed, Played, over, step}
 use Rattle.next_laws.specs.Playing.{HasSeen, HandHasSeen, IsLawfulStage, PlaysLawfully}

@@ -4,13 +4,14 @@ use Rattle.std.specs.Prelude.{slice_get, unwrap_or}
 use Rattle.tree_types.specs.declared.entry.Key.{Key}
 use Rattle.history.specs.Keys.{same_key, is_about, tick_of}
 use Rattle.history.specs.History.{Event, Version, number_of, clock_of, next_version, version_from, version_at_start, version_at}
+use Rattle.history.specs.Versions.{made_at, later_versions, lowered}
 use Rattle.history.proofs.Carrying.{absent_at}
 use Rattle.law.specs.Contents.{Content, apply, Story, number_at}
 use Rattle.lawful.proofs.Facts.{some_same, none_some}
 use Rattle.next_step.specs.Views.{Seen}
 use Rattle.next_step.specs.Replies.{seen}
-use Rattle.next_step.specs.Backward.{seen_at, made_at, later_versions, versions, read_back}
-use Rattle.next_laws.specs.ReadsBack.{lowered, ReadsBack}
+use Rattle.next_step.specs.Backward.{as_seen, seen_at, versions, read_back}
+use Rattle.next_laws.specs.ReadsBack.{ReadsBack}
 use Rattle.next_laws.proofs.ReadingBack.{read_is, reads_something}
 
 -- what an entry makes of an object: still none, or a version with the next number
@@ -28,16 +29,16 @@ next_number None e = by e.made
 
 -- ---- how many
 
-counted : (k : Key) (tick : ℕ) (v : Option (Version Content)) (es : List (Event Content)) → length (later_versions k tick v es) + number_of v ≡ number_of (version_from apply k v es)
+counted : (k : Key) (tick : ℕ) (v : Option (Version Content)) (es : List (Event Content)) → length (later_versions apply as_seen k tick v es) + number_of v ≡ number_of (version_from apply k v es)
 counted k tick v [] = omega arith
 counted k tick v (e ∷ es) = by (is_about k e.entry) (next_version apply v e) (next_number v e) (λ o. counted k (unwrap_or (tick_of e.entry) tick) o es)
   where
     now : ℕ
     now = unwrap_or (tick_of e.entry) tick
 
-    by : (b : Bool) (n : Option (Version Content)) → Next v n → ((o : Option (Version Content)) → length (later_versions k now o es) + number_of o ≡ number_of (version_from apply k o es)) → length (cond b (made_at now (cond b n v)) [] ++ later_versions k now (cond b n v) es) + number_of v ≡ number_of (version_from apply k (cond b n v) es)
+    by : (b : Bool) (n : Option (Version Content)) → Next v n → ((o : Option (Version Content)) → length (later_versions apply as_seen k now o es) + number_of o ≡ number_of (version_from apply k o es)) → length (cond b (made_at apply as_seen tick n) [] ++ later_versions apply as_seen k now (cond b n v) es) + number_of v ≡ number_of (version_from apply k (cond b n v) es)
     by false n x ih = ih v
-    by true None (still_none q r) ih = ap (λ o. length (later_versions k now None es) + number_of o) q ∙ ih None
+    by true None (still_none q r) ih = ap (λ o. length (later_versions apply as_seen k now None es) + number_of o) q ∙ ih None
     by true None (numbered u q r) ih = none_some u q
     by true (Some u) (still_none q r) ih = absurd cc
     by true (Some u) (numbered y q r) ih =
@@ -56,20 +57,20 @@ start_one k (o ∷ os) v e = by (same_key k o.0) e (start_one k os v)
 all_counted : (h : Story) (k : Key) → length (versions h k) ≡ number_at h k
 all_counted h k = by (version_at_start apply k h.start) (start_one k h.start)
   where
-    by : (o : Option (Version Content)) → ((v : Version Content) → o ≡ Some v → v.number ≡ 1) → length (made_at 0 o ++ later_versions k 0 o h.events) ≡ number_of (version_from apply k o h.events)
+    by : (o : Option (Version Content)) → ((v : Version Content) → o ≡ Some v → v.number ≡ 1) → length (made_at apply as_seen 0 o ++ later_versions apply as_seen k 0 o h.events) ≡ number_of (version_from apply k o h.events)
     by None one = let a = counted k 0 None h.events in omega (arith, a)
     by (Some v) one = let a = counted k 0 (Some v) h.events in let b = one v refl in omega (arith, a, b)
 
 -- ---- which numbers
 
-placed : (k : Key) (tick : ℕ) (v : Option (Version Content)) (es : List (Event Content)) (i : ℕ) (x : Seen Content) → slice_get (later_versions k tick v es) i ≡ Some x → x.number ≡ number_of v + i + 1
+placed : (k : Key) (tick : ℕ) (v : Option (Version Content)) (es : List (Event Content)) (i : ℕ) (x : Seen Content) → slice_get (later_versions apply as_seen k tick v es) i ≡ Some x → x.number ≡ number_of v + i + 1
 placed k tick v [] i x q = none_some x q
 placed k tick v (e ∷ es) i x q = by (is_about k e.entry) (next_version apply v e) (next_number v e) i q (λ o j. placed k (unwrap_or (tick_of e.entry) tick) o es j x)
   where
     now : ℕ
     now = unwrap_or (tick_of e.entry) tick
 
-    by : (b : Bool) (n : Option (Version Content)) → Next v n → (i : ℕ) → slice_get (cond b (made_at now (cond b n v)) [] ++ later_versions k now (cond b n v) es) i ≡ Some x → ((o : Option (Version Content)) (j : ℕ) → slice_get (later_versions k now o es) j ≡ Some x → x.number ≡ number_of o + j + 1) → x.number ≡ number_of v + i + 1
+    by : (b : Bool) (n : Option (Version Content)) → Next v n → (i : ℕ) → slice_get (cond b (made_at apply as_seen tick n) [] ++ later_versions apply as_seen k now (cond b n v) es) i ≡ Some x → ((o : Option (Version Content)) (j : ℕ) → slice_get (later_versions apply as_seen k now o es) j ≡ Some x → x.number ≡ number_of o + j + 1) → x.number ≡ number_of v + i + 1
     by false n y i q ih = ih v i q
     by true None (still_none a b) i q ih =
         let c = ih None i q in
@@ -78,7 +79,7 @@ placed k tick v (e ∷ es) i x q = by (is_about k e.entry) (next_version apply v
     by true None (numbered u a b) i q ih = none_some u a
     by true (Some u) (still_none a b) i q ih = absurd cc
     by true (Some u) (numbered y a b) zero q ih =
-        let c : u.number ≡ x.number = ap (λ (z : Seen Content). z.number) (some_same (seen u.number u.content now) x q) in
+        let c : u.number ≡ x.number = ap (λ (z : Seen Content). z.number) (some_same (seen u.number u.content tick) x q) in
         let d : u.number ≡ y.number = ap number_of a in
         omega (arith, b, c, d)
     by true (Some u) (numbered y a b) (suc j) q ih =
@@ -89,7 +90,7 @@ placed k tick v (e ∷ es) i x q = by (is_about k e.entry) (next_version apply v
 all_placed : (h : Story) (k : Key) (i : ℕ) (x : Seen Content) → slice_get (versions h k) i ≡ Some x → x.number ≡ i + 1
 all_placed h k i x q = by (version_at_start apply k h.start) (start_one k h.start) i q
   where
-    by : (o : Option (Version Content)) → ((v : Version Content) → o ≡ Some v → v.number ≡ 1) → (i : ℕ) → slice_get (made_at 0 o ++ later_versions k 0 o h.events) i ≡ Some x → x.number ≡ i + 1
+    by : (o : Option (Version Content)) → ((v : Version Content) → o ≡ Some v → v.number ≡ 1) → (i : ℕ) → slice_get (made_at apply as_seen 0 o ++ later_versions apply as_seen k 0 o h.events) i ≡ Some x → x.number ≡ i + 1
     by None one i q = let a = placed k 0 None h.events i x q in omega (arith, a)
     by (Some v) one zero q =
         let c : v.number ≡ x.number = ap (λ (z : Seen Content). z.number) (some_same (seen v.number v.content 0) x q) in
@@ -106,7 +107,7 @@ above_zero : (n : ℕ) → (n ≡ 0 → ⊥) → n ≡ lowered n 0
 above_zero zero f = absurd (f refl)
 above_zero (suc n) f = omega arith
 
-lowers : (n back : ℕ) → n - 1 - suc back + 1 ≡ lowered n (suc back)
+lowers : (n back : ℕ) → lowered n (suc back) - 1 + 1 ≡ lowered n (suc back)
 lowers n back = omega arith
 
 number_is : (h : Story) (k : Key) (back : ℕ) (x : Seen Content) → read_back h k back ≡ Some x → x.number ≡ lowered (number_at h k) back
@@ -118,7 +119,7 @@ number_is h k zero x e = by (version_at apply h k) refl e
         let same : v.number ≡ x.number = ap (λ (z : Seen Content). z.number) (some_same (seen v.number v.content (clock_of h)) x e) in
         sym same ∙ sym (ap number_of q) ∙ above_zero (number_at h k) (λ z. none_some v (sym (absent_at apply h k z) ∙ q))
 number_is h k (suc back) x e =
-    all_placed h k (length (versions h k) - 1 - suc back) x e
+    all_placed h k (lowered (length (versions h k)) (suc back) - 1) x e
     ∙ lowers (length (versions h k)) back ∙ ap (λ n. lowered n (suc back)) (all_counted h k)
 
 pub reads_back : ReadsBack

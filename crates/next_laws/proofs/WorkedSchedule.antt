@@ -8,12 +8,13 @@ use Rattle.tree_types.specs.declared.entry.Entry.TheVariants.{Write, Finish}
 use Rattle.tree_types.specs.declared.outcome.Outcome.{Outcome}
 use Rattle.meaning.specs.Trees.{closed}
 use Rattle.history.specs.History.{event, grown}
+use Rattle.history.specs.Versions.{back_of, lag_after}
 use Rattle.law.specs.Documents.{ended_by}
 use Rattle.law.specs.Contents.{OfWorkflow, OfPod, OfCaches, flow, begun_pod, finished, Story}
 use Rattle.law.specs.Due.{record_fact}
 use Rattle.next_step.specs.Views.{nothing}
 use Rattle.next_step.specs.Replies.{found, accepted, conflict, seen}
-use Rattle.next_step.specs.Backward.{read_back, back_of, lag_after}
+use Rattle.next_step.specs.Backward.{read_back}
 use Rattle.next_step.specs.Hands.{for_flow, for_pod, Hand, idle_hand, CallNote, note, op_get, op_write, op_tick, was_read, was_accepted, was_moved, was_behind}
 use Rattle.next_step.specs.Plays.{Stepped, gets, changes, gets_pod, finishes, ends, ScheduleStep, give_job, make_step, restart, set_lag, set_clock, stage, tick_event, gave, stepped, restarted, lagged, ticked, stayed, Played, over, step}
 use Rattle.next_laws.proofs.WorkedConflict.{w, m, D, h, g, at_first, has_read as view_read, has_written as view_written, main, plan, running}

@@ -1,14 +1,11 @@
 -- What a get reads that reads versions back.
-use Rattle.std.specs.Prelude.{◌≡◌, ℕ, ◌-◌, max, Some}
+use Rattle.std.specs.Prelude.{◌≡◌, ℕ, Some}
 use Rattle.tree_types.specs.declared.entry.Key.{Key}
 use Rattle.history.specs.History.{Version, version_at, IsVersionOf}
+use Rattle.history.specs.Versions.{lowered}
 use Rattle.law.specs.Contents.{Content, apply, Story, number_at}
 use Rattle.next_step.specs.Views.{Seen}
 use Rattle.next_step.specs.Backward.{read_back}
-
--- the number that is lower by so many, but at least 1
-abbrev pub lowered : ℕ → ℕ → ℕ
-lowered number back = max (number - back) 1
 
 -- it has that number, and was so at some moment
 pub record IsBack (h : Story) (k : Key) (back : ℕ) (x : Seen Content) : Type 0 where

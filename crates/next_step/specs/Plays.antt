@@ -7,6 +7,7 @@ use Rattle.tree_types.specs.declared.entry.Key.TheVariants as of_key
 use Rattle.tree_types.specs.declared.entry.Entry.TheVariants.{Tick}
 use Rattle.meaning.specs.Answers.{Facts}
 use Rattle.history.specs.History.{Event, event, grown, clock_of}
+use Rattle.history.specs.Versions.{back_of, lag_after}
 use Rattle.law.specs.Documents.{Text, Document}
 use Rattle.law.specs.Contents.{Flow, PodObject, Content, Story}
 use Rattle.law.specs.Due.{Matter, record_fact, IsTooLarge}
@@ -16,7 +17,7 @@ use Rattle.next_step.specs.Changes.{Change, change_of, AddsFor}
 use Rattle.next_step.specs.Replies.{Reply, after}
 use Rattle.next_step.specs.Runner.{RunNext, read, finish, already_finished, no_outcome, not_due, runner_next, finish_change}
 use Rattle.next_step.specs.Calls.{Did}
-use Rattle.next_step.specs.Backward.{GotBack, back_of, lag_after}
+use Rattle.next_step.specs.Backward.{GotBack}
 use Rattle.next_step.specs.Hands.{Given, for_flow, for_pod, Hand, fresh_hand, idle_hand, with_job, with_reply, CallNote, note, op_get, op_tick, op_of, was_accepted, was_behind, has_failed, answer_of}
 
 -- ---- one step of a hand

@@ -6,11 +6,12 @@ use Rattle.tree_types.specs.declared.entry.Entry.{Entry}
 use Rattle.tree_types.specs.declared.entry.Entry.TheVariants.{Tick}
 use Rattle.history.specs.Keys.{same_key, is_key, key_of}
 use Rattle.history.specs.History.{History, Event, Version, event, grown, clock_of, next_version, version_at, version_at_start}
+use Rattle.history.specs.Versions.{made_at}
 use Rattle.history.proofs.Extends.{clock_from-append}
 use Rattle.history.proofs.Keys.{same_key-true}
 use Rattle.object_store.specs.declared.line.Made.{Made}
 use Rattle.object_store.specs.Entries.{is_making, MakesObject, ChangesObject}
-use Rattle.object_store.specs.Versions.{made, made_at, versions, present}
+use Rattle.object_store.specs.Versions.{made, as_made, versions, present}
 use Rattle.object_store.specs.Inside.Kept.{first_in, rest_in, paired, history_of, making_in, Kept}
 use Rattle.object_store.specs.Inside.Rows.{Rows, change, fresh, OneMore, IsLine, Held}
 use Rattle.object_store.proofs.Index.{apart}
@@ -69,17 +70,17 @@ module _ {C : Type 0} (apply : C → Entry → Option C) where
   -- ---- the index, after an entry about a key
 
   held_grown : (line after : Key → Option (Rows C)) (es : List Entry) (x : Entry) (h : History C) (e : Event C) (k : Key) (new : List (Made C)) (r : Rows C) → ((j : Key) → Held apply es (line j) (versions apply h j)) → key_of e.entry ≡ Some k
-      → made_at apply (clock_of h) (next_version apply (version_at apply h k) e) ≡ new → IsLine apply (es ++ x ∷ []) r (versions apply h k ++ new) → ((j : Key) → after j ≡ cond (same_key j k) (Some r) (line j))
+      → made_at apply as_made (clock_of h) (next_version apply (version_at apply h k) e) ≡ new → IsLine apply (es ++ x ∷ []) r (versions apply h k ++ new) → ((j : Key) → after j ≡ cond (same_key j k) (Some r) (line j))
       → (j : Key) → Held apply (es ++ x ∷ []) (after j) (versions apply (grown h e) j)
   held_grown line after es x h e k new r held of makes grew changed j =
       subst (λ o. Held apply (es ++ x ∷ []) o (versions apply (grown h e) j)) (sym (changed j))
       (subst (λ ms. Held apply (es ++ x ∷ []) (cond (same_key j k) (Some r) (line j)) ms)
-      (sym (versions-grown apply h e j ∙ ap (λ o. versions apply h j ++ cond (is_key j o) (made_at apply (clock_of h) (next_version apply (version_at apply h j) e)) []) of))
+      (sym (versions-grown apply h e j ∙ ap (λ o. versions apply h j ++ cond (is_key j o) (made_at apply as_made (clock_of h) (next_version apply (version_at apply h j) e)) []) of))
       (by (same_key j k) refl))
     where
-      by : (b : Bool) → same_key j k ≡ b → Held apply (es ++ x ∷ []) (cond b (Some r) (line j)) (versions apply h j ++ cond b (made_at apply (clock_of h) (next_version apply (version_at apply h j) e)) [])
+      by : (b : Bool) → same_key j k ≡ b → Held apply (es ++ x ∷ []) (cond b (Some r) (line j)) (versions apply h j ++ cond b (made_at apply as_made (clock_of h) (next_version apply (version_at apply h j) e)) [])
       by true s =
-          subst (λ q. IsLine apply (es ++ x ∷ []) r (versions apply h q ++ made_at apply (clock_of h) (next_version apply (version_at apply h q) e))) (sym (same_key-true j k s))
+          subst (λ q. IsLine apply (es ++ x ∷ []) r (versions apply h q ++ made_at apply as_made (clock_of h) (next_version apply (version_at apply h q) e))) (sym (same_key-true j k s))
           (subst (λ ms. IsLine apply (es ++ x ∷ []) r (versions apply h k ++ ms)) (sym makes) grew)
       by false s = subst (λ ms. Held apply (es ++ x ∷ []) (line j) ms) (sym (append-nil (versions apply h j))) (held_later apply es (x ∷ []) (line j) (versions apply h j) (held j))
 
@@ -97,8 +98,8 @@ module _ {C : Type 0} (apply : C → Entry → Option C) where
     kept_changing e k v c after about stood leads from to was more changed =
         let g : History C = history_of begun firsts es in
         let grows = grown_changing e about.1 in
-        let makes : made_at apply (clock_of g) (next_version apply (version_at apply g k) (event e None)) ≡ made c clock ∷ [] =
-        ap (λ o. made_at apply (clock_of g) (next_version apply o (event e None))) stood ∙ ap (λ d. made (unwrap_or d v.content) (clock_of g) ∷ []) leads ∙ ap (λ t. made c t ∷ []) (sym kept.clock_is) in
+        let makes : made_at apply as_made (clock_of g) (next_version apply (version_at apply g k) (event e None)) ≡ made c clock ∷ [] =
+        ap (λ o. made_at apply as_made (clock_of g) (next_version apply o (event e None))) stood ∙ ap (λ d. made (unwrap_or d v.content) (clock_of g) ∷ []) leads ∙ ap (λ t. made c t ∷ []) (sym kept.clock_is) in
         let old : IsLine apply es from (versions apply g k) = subst (λ o. Held apply es o (versions apply g k)) was (kept.held k) in
         let last = last_version apply es g k from v old stood in
         let grew = line_more apply es e from to (versions apply g k) last.0 (made c clock) old last.1 (ap (λ d. apply d e) last.2 ∙ leads) more in
@@ -129,8 +130,8 @@ module _ {C : Type 0} (apply : C → Entry → Option C) where
         let grows = grown_making e (k, c) about.1 in
         let empty : versions apply g k ≡ [] = subst (λ o. Held apply es o (versions apply g k)) none (kept.held k) in
         let stood : version_at apply g k ≡ None = sym (last_is_present apply g k) ∙ ap present empty in
-        let makes : made_at apply (clock_of g) (next_version apply (version_at apply g k) (event e (Some c))) ≡ made c clock ∷ [] =
-        ap (λ o. made_at apply (clock_of g) (next_version apply o (event e (Some c)))) stood ∙ ap (λ t. made c t ∷ []) (sym kept.clock_is) in
+        let makes : made_at apply as_made (clock_of g) (next_version apply (version_at apply g k) (event e (Some c))) ≡ made c clock ∷ [] =
+        ap (λ o. made_at apply as_made (clock_of g) (next_version apply o (event e (Some c)))) stood ∙ ap (λ t. made c t ∷ []) (sym kept.clock_is) in
         let grew = subst (λ ms. IsLine apply (es ++ e ∷ []) (fresh (made c clock)) (ms ++ made c clock ∷ [])) (sym empty) (fresh_line apply (es ++ e ∷ []) (made c clock)) in
         record {
           counted = length-append firsts ((k, c) ∷ []) ∙ (let n = kept.counted in let m = making-making e es about.1 in omega arith);
@@ -206,13 +207,13 @@ module _ {C : Type 0} (apply : C → Entry → Option C) where
           held = λ j.
               subst (λ o. Held apply es o (versions apply (history_of n (firsts ++ (k, c) ∷ []) es) j)) (sym (changed j))
               (subst (λ ms. Held apply es (cond (same_key j k) (Some (fresh (made c 0))) (line j)) ms)
-              (ap (λ o. made_at apply 0 o ++ []) (sym (hidden j k c old.start absent)) ∙ ap (λ (g : History C). versions apply g j) (sym grows))
+              (ap (λ o. made_at apply as_made 0 o ++ []) (sym (hidden j k c old.start absent)) ∙ ap (λ (g : History C). versions apply g j) (sym grows))
               (at_start (same_key j k) j (subst (λ (g : History C). Held apply es (line j) (versions apply g j)) (is ∙ sym whole) (kept.held j))));
           clock_is = kept.clock_is ∙ ap clock_of (is ∙ sym whole) ∙ ap clock_of (sym grows);
         }
       where
-        at_start : (b : Bool) (j : Key) → Held apply es (line j) (made_at apply 0 (version_at_start apply j old.start) ++ [])
-            → Held apply es (cond b (Some (fresh (made c 0))) (line j)) (made_at apply 0 (cond b (Some record { number = 1; content = c }) (version_at_start apply j old.start)) ++ [])
+        at_start : (b : Bool) (j : Key) → Held apply es (line j) (made_at apply as_made 0 (version_at_start apply j old.start) ++ [])
+            → Held apply es (cond b (Some (fresh (made c 0))) (line j)) (made_at apply as_made 0 (cond b (Some record { number = 1; content = c }) (version_at_start apply j old.start)) ++ [])
         at_start true j held = fresh_line apply es (made c 0)
         at_start false j held = held
 

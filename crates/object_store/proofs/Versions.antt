@@ -7,11 +7,12 @@ use Rattle.tree_types.specs.declared.entry.Entry.{Entry}
 use Rattle.tree_types.specs.declared.entry.Entry.TheVariants.{Submit, Write, Create, Finish, File, Release, Save, Tick}
 use Rattle.history.specs.Keys.{same_key, is_about, key_of, tick_of}
 use Rattle.history.specs.History.{History, Event, Version, number_of, grown, clock_of, clock_from, next_version, step_at, version_from, version_at, version_at_start, IsVersionOf}
+use Rattle.history.specs.Versions.{made_at, added_by, later_versions}
 use Rattle.history.proofs.Extends.{extends_itself, extends_grown, clock_from-append, version_at-grown, is_version_later}
 use Rattle.history.proofs.Carrying.{key_found}
 use Rattle.object_store.specs.declared.line.Made.{Made}
 use Rattle.object_store.proofs.Places.{snoc_cases}
-use Rattle.object_store.specs.Versions.{made, last_of, present, made_at, added_by, later_versions, versions}
+use Rattle.object_store.specs.Versions.{made, as_made, last_of, present, versions}
 
 -- an entry about a key is no tick
 pub keyed_no_tick : (e : Entry) (k : Key) → key_of e ≡ Some k → tick_of e ≡ None
@@ -47,57 +48,57 @@ module _ {C : Type 0} where
   at_last m (n ∷ ms) = at_last n ms
 
 module _ {C : Type 0} (apply : C → Entry → Option C) where
-  later_versions-append : (k : Key) (t : ℕ) (v : Option (Version C)) (es fs : List (Event C)) → later_versions apply k t v (es ++ fs) ≡ later_versions apply k t v es ++ later_versions apply k (clock_from t es) (version_from apply k v es) fs
+  later_versions-append : (k : Key) (t : ℕ) (v : Option (Version C)) (es fs : List (Event C)) → later_versions apply as_made k t v (es ++ fs) ≡ later_versions apply as_made k t v es ++ later_versions apply as_made k (clock_from t es) (version_from apply k v es) fs
   later_versions-append k t v [] fs = refl
   later_versions-append k t v (e ∷ es) fs =
-      ap (λ ms. added_by apply k t v e ++ ms) (later_versions-append k (unwrap_or (tick_of e.entry) t) (step_at apply k v e) es fs)
-      ∙ sym (append_assoc (added_by apply k t v e) (later_versions apply k (unwrap_or (tick_of e.entry) t) (step_at apply k v e) es) _)
+      ap (λ ms. added_by apply as_made k t v e ++ ms) (later_versions-append k (unwrap_or (tick_of e.entry) t) (step_at apply k v e) es fs)
+      ∙ sym (append_assoc (added_by apply as_made k t v e) (later_versions apply as_made k (unwrap_or (tick_of e.entry) t) (step_at apply k v e) es) _)
 
-  pub versions-grown : (h : History C) (e : Event C) (k : Key) → versions apply (grown h e) k ≡ versions apply h k ++ added_by apply k (clock_of h) (version_at apply h k) e
+  pub versions-grown : (h : History C) (e : Event C) (k : Key) → versions apply (grown h e) k ≡ versions apply h k ++ added_by apply as_made k (clock_of h) (version_at apply h k) e
   versions-grown h e k =
       let v = version_at_start apply k h.start in
-      ap (λ ms. made_at apply 0 v ++ ms) (later_versions-append k 0 v h.events (e ∷ []) ∙ ap (λ ms. later_versions apply k 0 v h.events ++ ms) (append-nil (added_by apply k (clock_of h) (version_at apply h k) e)))
-      ∙ sym (append_assoc (made_at apply 0 v) (later_versions apply k 0 v h.events) (added_by apply k (clock_of h) (version_at apply h k) e))
+      ap (λ ms. made_at apply as_made 0 v ++ ms) (later_versions-append k 0 v h.events (e ∷ []) ∙ ap (λ ms. later_versions apply as_made k 0 v h.events ++ ms) (append-nil (added_by apply as_made k (clock_of h) (version_at apply h k) e)))
+      ∙ sym (append_assoc (made_at apply as_made 0 v) (later_versions apply as_made k 0 v h.events) (added_by apply as_made k (clock_of h) (version_at apply h k) e))
 
   -- ---- the last is the present one
 
-  present_more : (k : Key) (t : ℕ) (ms : List (Made C)) (e : Event C) → present (ms ++ added_by apply k t (present ms) e) ≡ step_at apply k (present ms) e
+  present_more : (k : Key) (t : ℕ) (ms : List (Made C)) (e : Event C) → present (ms ++ added_by apply as_made k t (present ms) e) ≡ step_at apply k (present ms) e
   present_more k t ms e = by (is_about k e.entry) ms
     where
-      first : (o : Option C) → let v : Option (Version C) = elim o [ None ↦ None | Some c ↦ Some record { number = 1; content = c } ] in present ([] ++ made_at apply t v) ≡ v
+      first : (o : Option C) → let v : Option (Version C) = elim o [ None ↦ None | Some c ↦ Some record { number = 1; content = c } ] in present ([] ++ made_at apply as_made t v) ≡ v
       first None = refl
       first (Some c) = refl
 
-      by : (b : Bool) (ms : List (Made C)) → present (ms ++ cond b (made_at apply t (next_version apply (present ms) e)) []) ≡ cond b (next_version apply (present ms) e) (present ms)
+      by : (b : Bool) (ms : List (Made C)) → present (ms ++ cond b (made_at apply as_made t (next_version apply (present ms) e)) []) ≡ cond b (next_version apply (present ms) e) (present ms)
       by false ms = ap present (append-nil ms)
       by true [] = first e.made
       by true (m ∷ ms) = present-snoc m (made (unwrap_or (apply (last_of m ms).content e.entry) (last_of m ms).content) t) ms
 
-  present_later : (k : Key) (t : ℕ) (ms : List (Made C)) (es : List (Event C)) → present (ms ++ later_versions apply k t (present ms) es) ≡ version_from apply k (present ms) es
+  present_later : (k : Key) (t : ℕ) (ms : List (Made C)) (es : List (Event C)) → present (ms ++ later_versions apply as_made k t (present ms) es) ≡ version_from apply k (present ms) es
   present_later k t ms [] = ap present (append-nil ms)
   present_later k t ms (e ∷ es) =
-      let more = added_by apply k t (present ms) e in
+      let more = added_by apply as_made k t (present ms) e in
       let next = unwrap_or (tick_of e.entry) t in
       let step : present (ms ++ more) ≡ step_at apply k (present ms) e = present_more k t ms e in
-      ap present (sym (append_assoc ms more (later_versions apply k next (step_at apply k (present ms) e) es)))
-      ∙ ap (λ v. present ((ms ++ more) ++ later_versions apply k next v es)) (sym step)
+      ap present (sym (append_assoc ms more (later_versions apply as_made k next (step_at apply k (present ms) e) es)))
+      ∙ ap (λ v. present ((ms ++ more) ++ later_versions apply as_made k next v es)) (sym step)
       ∙ present_later k next (ms ++ more) es
       ∙ ap (λ v. version_from apply k v es) step
 
-  present_start : (k : Key) (os : List (Key × C)) → present (made_at apply 0 (version_at_start apply k os)) ≡ version_at_start apply k os
+  present_start : (k : Key) (os : List (Key × C)) → present (made_at apply as_made 0 (version_at_start apply k os)) ≡ version_at_start apply k os
   present_start k [] = refl
   present_start k (o ∷ os) = by (same_key k o.0) (present_start k os)
     where
-      by : (b : Bool) → present (made_at apply 0 (version_at_start apply k os)) ≡ version_at_start apply k os → let v = cond b (Some record { number = 1; content = o.1 }) (version_at_start apply k os) in present (made_at apply 0 v) ≡ v
+      by : (b : Bool) → present (made_at apply as_made 0 (version_at_start apply k os)) ≡ version_at_start apply k os → let v = cond b (Some record { number = 1; content = o.1 }) (version_at_start apply k os) in present (made_at apply as_made 0 v) ≡ v
       by true ih = refl
       by false ih = ih
 
   pub last_is_present : (h : History C) (k : Key) → present (versions apply h k) ≡ version_at apply h k
   last_is_present h k =
       let v = version_at_start apply k h.start in
-      let start : present (made_at apply 0 v) ≡ v = present_start k h.start in
-      ap (λ w. present (made_at apply 0 v ++ later_versions apply k 0 w h.events)) (sym start)
-      ∙ present_later k 0 (made_at apply 0 v) h.events
+      let start : present (made_at apply as_made 0 v) ≡ v = present_start k h.start in
+      ap (λ w. present (made_at apply as_made 0 v ++ later_versions apply as_made k 0 w h.events)) (sym start)
+      ∙ present_later k 0 (made_at apply as_made 0 v) h.events
       ∙ ap (λ w. version_from apply k w h.events) start
 
   -- ---- each was there
@@ -128,7 +129,7 @@ module _ {C : Type 0} (apply : C → Entry → Option C) where
       older : (i : ℕ) (m : Made C) → slice_get (versions apply h k) i ≡ Some m → IsVersionOf apply (grown h e) k (i + 1) m.content m.tick
       older i m at = is_version_later apply h (grown h e) k (i + 1) m.content m.tick (extends_grown h e) (there i m at)
 
-      grew : (ms : List (Made C)) → added_by apply k (clock_of h) (version_at apply h k) e ≡ ms → versions apply (grown h e) k ≡ versions apply h k ++ ms
+      grew : (ms : List (Made C)) → added_by apply as_made k (clock_of h) (version_at apply h k) e ≡ ms → versions apply (grown h e) k ≡ versions apply h k ++ ms
       grew ms is = versions-grown h e k ∙ ap (λ ns. versions apply h k ++ ns) is
 
       nothing : versions apply (grown h e) k ≡ versions apply h k ++ [] → AllThere (grown h e) k (versions apply (grown h e) k)
@@ -141,10 +142,10 @@ module _ {C : Type 0} (apply : C → Entry → Option C) where
           (subst (λ x. IsVersionOf apply (grown h e) k (length (versions apply h k) + 1) x.content x.tick) (sym p.1) is)
 
       by : (b : Bool) → is_about k e.entry ≡ b → (o : Option (Version C)) → next_version apply (version_at apply h k) e ≡ o → AllThere (grown h e) k (versions apply (grown h e) k)
-      by false about o next = nothing (grew [] (ap (λ b. cond b (made_at apply (clock_of h) (next_version apply (version_at apply h k) e)) []) about))
-      by true about None next = nothing (grew [] (ap (λ b. cond b (made_at apply (clock_of h) (next_version apply (version_at apply h k) e)) []) about ∙ ap (made_at apply (clock_of h)) next))
+      by false about o next = nothing (grew [] (ap (λ b. cond b (made_at apply as_made (clock_of h) (next_version apply (version_at apply h k) e)) []) about))
+      by true about None next = nothing (grew [] (ap (λ b. cond b (made_at apply as_made (clock_of h) (next_version apply (version_at apply h k) e)) []) about ∙ ap (made_at apply as_made (clock_of h)) next))
       by true about (Some v) next = λ i m at.
-          let g = grew (made v.content (clock_of h) ∷ []) (ap (λ b. cond b (made_at apply (clock_of h) (next_version apply (version_at apply h k) e)) []) about ∙ ap (made_at apply (clock_of h)) next) in
+          let g = grew (made v.content (clock_of h) ∷ []) (ap (λ b. cond b (made_at apply as_made (clock_of h) (next_version apply (version_at apply h k) e)) []) about ∙ ap (made_at apply as_made (clock_of h)) next) in
           newest v (made_there h e k v about next g) i m (snoc_cases (versions apply h k) (made v.content (clock_of h)) i m (sym (ap (λ ms. slice_get ms i) g) ∙ at))
 
   from_there : (start : List (Key × C)) (before es : List (Event C)) (k : Key) → (let h : History C = record { start = start; events = before } in AllThere h k (versions apply h k)) → (let g : History C = record { start = start; events = before ++ es } in AllThere g k (versions apply g k))
@@ -157,18 +158,18 @@ module _ {C : Type 0} (apply : C → Entry → Option C) where
   start_there : (start : List (Key × C)) (k : Key) → let h : History C = record { start = start; events = [] } in AllThere h k (versions apply h k)
   start_there start k = by (version_at_start apply k start) refl
     where
-      one : (v : Version C) → version_at_start apply k start ≡ Some v → (i : ℕ) (m : Made C) → slice_get (made_at apply 0 (Some v) ++ []) i ≡ Some m → IsVersionOf apply record { start = start; events = [] } k (i + 1) m.content m.tick
+      one : (v : Version C) → version_at_start apply k start ≡ Some v → (i : ℕ) (m : Made C) → slice_get (made_at apply as_made 0 (Some v) ++ []) i ≡ Some m → IsVersionOf apply record { start = start; events = [] } k (i + 1) m.content m.tick
       one v is zero m at =
           let first : made v.content 0 ≡ m = (let q : Some (made v.content 0) ≡ Some m = at in cc) in
           let g : History C = record { start = start; events = [] } in
-          let number : v.number ≡ 1 = ap number_of (sym is ∙ sym (present_start k start) ∙ ap (λ o. present (made_at apply 0 o)) is) in
+          let number : v.number ≡ 1 = ap number_of (sym is ∙ sym (present_start k start) ∙ ap (λ o. present (made_at apply as_made 0 o)) is) in
           subst (λ x. IsVersionOf apply g k 1 x.content x.tick) first
           record { before = g; extends = extends_itself g; stood = is ∙ ap (λ n. Some record { number = n; content = v.content }) number; clock = refl }
       one v is (suc i) m at = absurd (cc)
 
       by : (o : Option (Version C)) → version_at_start apply k start ≡ o → let g : History C = record { start = start; events = [] } in AllThere g k (versions apply g k)
-      by None is = subst (λ o. (i : ℕ) (m : Made C) → slice_get (made_at apply 0 o ++ []) i ≡ Some m → IsVersionOf apply record { start = start; events = [] } k (i + 1) m.content m.tick) (sym is) (λ i m at. absurd (cc))
-      by (Some v) is = subst (λ o. (i : ℕ) (m : Made C) → slice_get (made_at apply 0 o ++ []) i ≡ Some m → IsVersionOf apply record { start = start; events = [] } k (i + 1) m.content m.tick) (sym is) (one v is)
+      by None is = subst (λ o. (i : ℕ) (m : Made C) → slice_get (made_at apply as_made 0 o ++ []) i ≡ Some m → IsVersionOf apply record { start = start; events = [] } k (i + 1) m.content m.tick) (sym is) (λ i m at. absurd (cc))
+      by (Some v) is = subst (λ o. (i : ℕ) (m : Made C) → slice_get (made_at apply as_made 0 o ++ []) i ≡ Some m → IsVersionOf apply record { start = start; events = [] } k (i + 1) m.content m.tick) (sym is) (one v is)
 
   pub each_was_there : (h : History C) (k : Key) → AllThere h k (versions apply h k)
   each_was_there h k = from_there h.start [] h.events k (start_there h.start k)

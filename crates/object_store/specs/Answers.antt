@@ -3,11 +3,12 @@ use Rattle.std.specs.Prelude.{◌≡◌, ◌≢◌, ℕ, ◌+◌, ◌-◌, ◌<�
 use Rattle.tree_types.specs.declared.entry.Key.{Key}
 use Rattle.tree_types.specs.declared.entry.Entry.{Entry}
 use Rattle.history.specs.History.{History, Event, Version, number_of, grown, IsVersionOf}
+use Rattle.history.specs.Versions.{lowered}
 use Rattle.object_store.specs.declared.line.Made.{Made}
 use Rattle.object_store.specs.declared.snapshot.Snapshot.{Snapshot}
 use Rattle.object_store.specs.declared.refused.StoreRefused.{StoreRefused}
 use Rattle.object_store.specs.declared.refused.StoreRefused.TheVariants.{NoObject, Exists, Conflict, Behind, Fault, Memory}
-use Rattle.object_store.specs.Versions.{made, lowered}
+use Rattle.object_store.specs.Versions.{made}
 
 abbrev pub is_fault : {T : Type 0} → Result T StoreRefused → Bool
 is_fault (Err Fault) = true

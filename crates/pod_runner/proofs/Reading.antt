@@ -4,6 +4,7 @@ use Rattle.std.specs.Prelude.{IfOk}
 use Rattle.tree_types.specs.declared.entry.Key.{Key}
 use Rattle.tree_types.specs.declared.entry.Key.TheVariants as of_key
 use Rattle.history.specs.History.{Extends, IsVersionOf}
+use Rattle.history.specs.Versions.{back_of, lag_after}
 use Rattle.object_store.specs.declared.snapshot.Snapshot.{Snapshot}
 use Rattle.object_store.specs.declared.refused.StoreRefused.{StoreRefused}
 use Rattle.object_store.specs.declared.refused.StoreRefused.TheVariants as refused
@@ -12,7 +13,7 @@ use Rattle.store_client.specs.Calls.{CountsOthers}
 use Rattle.law.specs.Contents.{PodObject, Content, OfWorkflow, OfPod, OfLocks, OfCaches, apply, Story, pod_in}
 use Rattle.lawful.proofs.Facts.{some_same, none_some}
 use Rattle.next_step.specs.Replies.{Reply, found}
-use Rattle.next_step.specs.Backward.{GotBack, back_of, lag_after}
+use Rattle.next_step.specs.Backward.{GotBack}
 use Rattle.next_laws.specs.Viewing.{Answers}
 use Rattle.reply_laws.specs.Replies.{seen_in, refusal, read_reply}
 use Rattle.pod_runner.specs.declared.answers.RunFault.{RunFault}

@@ -5,6 +5,7 @@ use Rattle.tree_types.specs.declared.fact.Fact.{Fact}
 use Rattle.tree_types.specs.declared.entry.Key.{Key}
 use Rattle.tree_types.specs.declared.entry.Key.TheVariants.{Workflow, Pod, Locks, Caches}
 use Rattle.history.specs.History.{Extends}
+use Rattle.history.specs.Versions.{back_of, lag_after}
 use Rattle.history.proofs.Extends.{extends_itself}
 use Rattle.store_client.specs.Calls.{CountsOthers}
 use Rattle.meaning.specs.Answers.{Facts}
@@ -16,7 +17,7 @@ use Rattle.law.specs.Contents.{Flow}
 use Rattle.next_step.specs.Next.{get, act, done, worker_next}
 use Rattle.next_step.specs.Changes.{change_of, AddsFor}
 use Rattle.next_step.specs.Replies.{Reply, found, accepted, no_object, exists, conflict, fault, Job, goes_on, ended, after}
-use Rattle.next_step.specs.Backward.{GotBack, back_of, lag_after}
+use Rattle.next_step.specs.Backward.{GotBack}
 use Rattle.next_step.specs.Hands.{Given, for_flow, fresh_hand, with_job}
 use Rattle.next_step.specs.Plays.{gets, changes, is_full, is_done, get_note, change_note}
 use Rattle.next_laws.proofs.Gets.{OwnKey, own_key}

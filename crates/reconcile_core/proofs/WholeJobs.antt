@@ -5,6 +5,7 @@ use Rattle.io_edge.specs.Cause.{Rose}
 use Rattle.tree_types.specs.declared.entry.Key.{Key}
 use Rattle.tree_types.specs.declared.entry.Key.TheVariants.{Workflow, Pod, Locks, Caches}
 use Rattle.history.specs.History.{Event}
+use Rattle.history.specs.Versions.{back_of, lag_after}
 use Rattle.history.proofs.Extends.{extends_itself, extends_later}
 use Rattle.store_client.specs.Calls.{CountsOthers, StaysLawful}
 use Rattle.law.specs.Documents.{Text, Document}
@@ -15,7 +16,7 @@ use Rattle.next_step.specs.Next.{get, act, done, worker_next}
 use Rattle.next_step.specs.Changes.{change_of, ViewsOf}
 use Rattle.next_step.specs.Replies.{Reply, found, accepted, no_object, exists, conflict, fault, Job, Ending, goes_on, ended, after}
 use Rattle.next_step.specs.Calls.{Got, Did, Undisturbed, calls_of, stays}
-use Rattle.next_step.specs.Backward.{GotBack, back_of, lag_after}
+use Rattle.next_step.specs.Backward.{GotBack}
 use Rattle.next_step.specs.Hands.{Given, for_flow, for_pod, Hand, with_job, CallNote}
 use Rattle.next_step.specs.Plays.{Stepped, has_none, gets, changes, is_full, is_done, gets_pod, finishes, ends}
 use Rattle.next_step.specs.Rounds.{WorkerEnds, by_done, by_full, by_get, by_change, worker_ran, faults_of}

@@ -6,7 +6,8 @@ use Rattle.tree_types.specs.declared.entry.Key.TheVariants.{Workflow, Pod, Locks
 use Rattle.tree_types.specs.declared.entry.Entry.{Entry}
 use Rattle.history.specs.Keys.{is_key, key_of, is_about, tick_of}
 use Rattle.history.specs.History.{Event, event, Version, Extends, number_of, grown, clock_of, next_version, version_at, IsVersionOf}
-use Rattle.history.proofs.Keys.{same_key-refl}
+use Rattle.history.specs.Versions.{back_of}
+use Rattle.history.proofs.Keys.{same_key-refl, timeless}
 use Rattle.history.proofs.Extends.{version_at-grown, clock_from-append}
 use Rattle.history.proofs.Carrying.{absent_at}
 use Rattle.object_store.specs.declared.snapshot.Snapshot.{Snapshot}
@@ -16,29 +17,22 @@ use Rattle.object_store.specs.Entries.{MakesObject, ChangesObject}
 use Rattle.object_store.specs.Versions as stored
 use Rattle.object_store.specs.Answers.{IsOf, GetGives, GetBackGives, CreateGives, WriteGives, Adds}
 use Rattle.object_store.proofs.Seen.{stands_none}
-use Rattle.store_client.specs.Lags.{lag_of}
 use Rattle.store_client.specs.Calls.{ReadGives, Got, Created, Wrote}
 use Rattle.law.specs.Contents.{Content, apply, Story, number_at}
 use Rattle.next_step.specs.Changes.{Change, change, ShownAt}
 use Rattle.next_step.specs.Replies.{Reply}
 use Rattle.next_step.specs.Calls.{Did}
-use Rattle.next_step.specs.Backward.{seen_at, read_back, GotBack, back_of}
+use Rattle.next_step.specs.Backward.{seen_at, read_back, GotBack}
 use Rattle.next_laws.specs.Viewing.{IsRead, Answers}
 use Rattle.next_laws.proofs.Following.{was_seen}
 use Rattle.reply_laws.specs.Replies.{seen_in, refusal, read_reply, change_reply, DidBehind}
 use Rattle.reply_laws.specs.Laws.{GetsAreAnswered, CreatesAreDone, WritesAreDone}
-use Rattle.reply_laws.proofs.Numbered.{timeless, reads_numbered}
+use Rattle.reply_laws.proofs.Numbered.{reads_numbered}
 
 abbrev Reads : Type 0
 Reads = Result (Snapshot Content) StoreRefused
 
 -- ---- gets
-
-same_lag : (k : Key) (lag : ℕ) → lag_of k lag ≡ back_of k lag
-same_lag Caches lag = refl
-same_lag Locks lag = refl
-same_lag (Workflow w) lag = refl
-same_lag (Pod w n) lag = refl
 
 read_now : (h : Story) (k : Key) (r : Reads) → GetGives k (clock_of h) (version_at apply h k) r → r ≢ Err refused.Memory → GotBack h 0 k (read_reply r)
 read_now h k (Ok s) g m = ap (λ o. seen_at (clock_of h) o) g.0 ∙ ap (λ t. seen_at t (Some record { number = s.version; content = s.content })) (sym g.2)
@@ -71,7 +65,7 @@ key_by h k lag (Err e) g = tt
 shown_now : (h : Story) (k : Key) (s : Snapshot Content) → GetGives k (clock_of h) (version_at apply h k) (Ok s) → ShownAt h k s.version s.content s.tick
 shown_now h k s g = record { stood = g.0; clock = sym g.2 }
 
-is_read : (h : Story) (k : Key) (lag : ℕ) (s : Snapshot Content) → ReadGives apply k (lag_of k lag) h (Ok s) → IsOf apply s h → s.key ≡ k → IsRead h k (seen_in s)
+is_read : (h : Story) (k : Key) (lag : ℕ) (s : Snapshot Content) → ReadGives apply k (back_of k lag) h (Ok s) → IsOf apply s h → s.key ≡ k → IsRead h k (seen_in s)
 is_read h Caches lag s g o e = shown_now h Caches s g
 is_read h Locks lag s g o e = subst (λ k. IsVersionOf apply h k s.version s.content s.tick) e o
 is_read h (Workflow w) lag s g o e = subst (λ k. IsVersionOf apply h k s.version s.content s.tick) e o
@@ -80,20 +74,20 @@ is_read h (Pod w n) lag s g o e = subst (λ k. IsVersionOf apply h k s.version s
 missing : (h : Story) (k : Key) (lag : ℕ) → GotBack h lag k (refusal refused.NoObject) → version_at apply h k ≡ None
 missing h k lag g = g
 
-answers : (h : Story) (k : Key) (lag : ℕ) (r : Reads) → ReadGives apply k (lag_of k lag) h r → IfOk r (λ s. IsOf apply s h) → r ≢ Err refused.Memory → Answers h k (read_reply r)
-answers h k lag (Ok s) g o m = is_read h k lag s g o (key_by h k (lag_of k lag) (Ok s) g)
-answers h k lag (Err refused.NoObject) g o m = read_by h k (lag_of k lag) (Err refused.NoObject) g m
+answers : (h : Story) (k : Key) (lag : ℕ) (r : Reads) → ReadGives apply k (back_of k lag) h r → IfOk r (λ s. IsOf apply s h) → r ≢ Err refused.Memory → Answers h k (read_reply r)
+answers h k lag (Ok s) g o m = is_read h k lag s g o (key_by h k (back_of k lag) (Ok s) g)
+answers h k lag (Err refused.NoObject) g o m = read_by h k (back_of k lag) (Err refused.NoObject) g m
 answers h k lag (Err refused.Fault) g o m = tt
 answers h k lag (Err refused.Memory) g o m = absurd (m refl)
-answers h k lag (Err refused.Exists) g o m = absurd (read_by h k (lag_of k lag) (Err refused.Exists) g m)
-answers h k lag (Err (refused.Conflict a b)) g o m = absurd (read_by h k (lag_of k lag) (Err (refused.Conflict a b)) g m)
-answers h k lag (Err (refused.Behind c)) g o m = read_by h k (lag_of k lag) (Err (refused.Behind c)) g m
+answers h k lag (Err refused.Exists) g o m = absurd (read_by h k (back_of k lag) (Err refused.Exists) g m)
+answers h k lag (Err (refused.Conflict a b)) g o m = absurd (read_by h k (back_of k lag) (Err (refused.Conflict a b)) g m)
+answers h k lag (Err (refused.Behind c)) g o m = read_by h k (back_of k lag) (Err (refused.Behind c)) g m
 
 pub gets_are_answered : GetsAreAnswered
 gets_are_answered = record {
-  back = λ k lag seen now r before after g m. subst (λ n. GotBack now n k (read_reply r)) (same_lag k lag) (read_by now k (lag_of k lag) r g.gives m);
+  back = λ k lag seen now r before after g m. read_by now k (back_of k lag) r g.gives m;
   read = λ k lag seen now r before after g o m. answers now k lag r g.gives o m;
-  key = λ k lag seen now r before after g. key_by now k (lag_of k lag) r g.gives;
+  key = λ k lag seen now r before after g. key_by now k (back_of k lag) r g.gives;
 }
 
 -- ---- changes

@@ -3,17 +3,15 @@
 use Rattle.std.proofs.Common.{◌≡◌, ℕ, zero, suc, ◌+◌, ◌-◌, Bool, true, false, cond, List, [], ◌∷◌, ◌++◌, length, refl, sym, ◌∙◌, ap, ap₂, subst, Option, Some, None, arith}
 use Rattle.std.specs.Prelude.{slice_get, unwrap_or, max}
 use Rattle.tree_types.specs.declared.entry.Key.{Key}
-use Rattle.tree_types.specs.declared.entry.Key.TheVariants.{Workflow, Pod, Locks, Caches}
-use Rattle.tree_types.specs.declared.entry.Entry.{Entry}
-use Rattle.tree_types.specs.declared.entry.Entry.TheVariants.{Submit, Write, Create, Finish, File, Release, Save, Tick}
 use Rattle.history.specs.Keys.{same_key, is_about, tick_of}
 use Rattle.history.specs.History.{Event, Version, number_of, next_version, step_at, version_at_start, version_at}
+use Rattle.history.specs.Versions.{made_at, later_versions, versions_of, lowered}
 use Rattle.object_store.specs.declared.line.Made.{Made}
-use Rattle.object_store.specs.Versions as stored
+use Rattle.object_store.specs.Versions.{made, as_made}
 use Rattle.law.specs.Contents.{Content, apply, Story}
 use Rattle.next_step.specs.Views.{Seen}
 use Rattle.next_step.specs.Replies.{seen}
-use Rattle.next_step.specs.Backward as back
+use Rattle.next_step.specs.Backward.{as_seen, read_back}
 
 -- with their numbers, the first of these
 abbrev pub numbered : ℕ → List (Made Content) → List (Seen Content)
@@ -34,62 +32,51 @@ numbered-length : (n : ℕ) (ms : List (Made Content)) → length (numbered n ms
 numbered-length n [] = refl
 numbered-length n (m ∷ ms) = ap suc (numbered-length (suc n) ms)
 
--- an entry about a key is no tick
-pub timeless : (k : Key) (e : Entry) → is_about k e ≡ true → (t : ℕ) → unwrap_or (tick_of e) t ≡ t
-timeless k (Submit w old fs) a t = refl
-timeless k (Write w v fs) a t = refl
-timeless k (Create w n p b) a t = refl
-timeless k (Finish w n o) a t = refl
-timeless k (File l h r) a t = refl
-timeless k (Release l h) a t = refl
-timeless k (Save c h w o b) a t = refl
-timeless k (Tick to) a t = absurd cc
-
 -- a version that is made has the next number
-made_next : (t : ℕ) (v : Option (Version Content)) (e : Event Content) → back.made_at t (next_version apply v e) ≡ numbered (suc (number_of v)) (stored.made_at apply t (next_version apply v e))
+made_next : (t : ℕ) (v : Option (Version Content)) (e : Event Content) → made_at apply as_seen t (next_version apply v e) ≡ numbered (suc (number_of v)) (made_at apply as_made t (next_version apply v e))
 made_next t (Some v) e = ap (λ n. seen n (unwrap_or (apply v.content e.entry) v.content) t ∷ []) (plus v.number)
   where
     plus : (n : ℕ) → n + 1 ≡ suc n
     plus n = omega arith
 made_next t None e = by e.made
   where
-    by : (o : Option Content) → back.made_at t (elim o [ None ↦ None | Some c ↦ Some record { number = 1; content = c } ]) ≡ numbered 1 (stored.made_at apply t (elim o [ None ↦ None | Some c ↦ Some record { number = 1; content = c } ]))
+    by : (o : Option Content) → made_at apply as_seen t (elim o [ None ↦ None | Some c ↦ Some record { number = 1; content = c } ]) ≡ numbered 1 (made_at apply as_made t (elim o [ None ↦ None | Some c ↦ Some record { number = 1; content = c } ]))
     by None = refl
     by (Some c) = refl
 
 -- how many are made
-count_next : (t : ℕ) (v : Option (Version Content)) (e : Event Content) → length (stored.made_at apply t (next_version apply v e)) + suc (number_of v) ≡ suc (number_of (next_version apply v e))
+count_next : (t : ℕ) (v : Option (Version Content)) (e : Event Content) → length (made_at apply as_made t (next_version apply v e)) + suc (number_of v) ≡ suc (number_of (next_version apply v e))
 count_next t (Some v) e = omega arith
 count_next t None e = by e.made
   where
-    by : (o : Option Content) → length (stored.made_at apply t (elim o [ None ↦ None | Some c ↦ Some record { number = 1; content = c } ])) + 1 ≡ suc (number_of (elim o [ None ↦ None | Some c ↦ Some record { number = 1; content = c } ]))
+    by : (o : Option Content) → length (made_at apply as_made t (elim o [ None ↦ None | Some c ↦ Some record { number = 1; content = c } ])) + 1 ≡ suc (number_of (elim o [ None ↦ None | Some c ↦ Some record { number = 1; content = c } ]))
     by None = refl
     by (Some c) = refl
 
-later_numbered : (k : Key) (t : ℕ) (v : Option (Version Content)) (es : List (Event Content)) → back.later_versions k t v es ≡ numbered (suc (number_of v)) (stored.later_versions apply k t v es)
+later_numbered : (k : Key) (t : ℕ) (v : Option (Version Content)) (es : List (Event Content)) → later_versions apply as_seen k t v es ≡ numbered (suc (number_of v)) (later_versions apply as_made k t v es)
 later_numbered k t v [] = refl
-later_numbered k t v (e ∷ es) = by (is_about k e.entry) refl (λ u. later_numbered k (unwrap_or (tick_of e.entry) t) u es)
+later_numbered k t v (e ∷ es) = by (is_about k e.entry) (λ u. later_numbered k (unwrap_or (tick_of e.entry) t) u es)
   where
     now : ℕ
     now = unwrap_or (tick_of e.entry) t
 
     ms : List (Made Content)
-    ms = stored.made_at apply t (next_version apply v e)
+    ms = made_at apply as_made t (next_version apply v e)
 
     rest : List (Made Content)
-    rest = stored.later_versions apply k now (next_version apply v e) es
+    rest = later_versions apply as_made k now (next_version apply v e) es
 
-    by : (b : Bool) → is_about k e.entry ≡ b → ((u : Option (Version Content)) → back.later_versions k now u es ≡ numbered (suc (number_of u)) (stored.later_versions apply k now u es)) → cond b (back.made_at now (cond b (next_version apply v e) v)) [] ++ back.later_versions k now (cond b (next_version apply v e) v) es ≡ numbered (suc (number_of v)) (cond b (stored.made_at apply t (next_version apply v e)) [] ++ stored.later_versions apply k now (cond b (next_version apply v e) v) es)
-    by false q ih = ih v
-    by true q ih =
-        ap₂ (λ xs ys. xs ++ ys) (ap (λ j. back.made_at j (next_version apply v e)) (timeless k e.entry q t) ∙ made_next t v e) (ih (next_version apply v e) ∙ ap (λ j. numbered j rest) (sym (count_next t v e)))
+    by : (b : Bool) → ((u : Option (Version Content)) → later_versions apply as_seen k now u es ≡ numbered (suc (number_of u)) (later_versions apply as_made k now u es)) → cond b (made_at apply as_seen t (next_version apply v e)) [] ++ later_versions apply as_seen k now (cond b (next_version apply v e) v) es ≡ numbered (suc (number_of v)) (cond b (made_at apply as_made t (next_version apply v e)) [] ++ later_versions apply as_made k now (cond b (next_version apply v e) v) es)
+    by false ih = ih v
+    by true ih =
+        ap₂ (λ xs ys. xs ++ ys) (made_next t v e) (ih (next_version apply v e) ∙ ap (λ j. numbered j rest) (sym (count_next t v e)))
         ∙ sym (numbered-append (suc (number_of v)) ms rest)
 
-start_numbered : (o : Option (Version Content)) → ((v : Version Content) → o ≡ Some v → v.number ≡ 1) → back.made_at 0 o ≡ numbered 1 (stored.made_at apply 0 o)
+start_numbered : (o : Option (Version Content)) → ((v : Version Content) → o ≡ Some v → v.number ≡ 1) → made_at apply as_seen 0 o ≡ numbered 1 (made_at apply as_made 0 o)
 start_numbered None one = refl
 start_numbered (Some v) one = ap (λ n. seen n v.content 0 ∷ []) (one v refl)
 
-start_counted : (o : Option (Version Content)) → ((v : Version Content) → o ≡ Some v → v.number ≡ 1) → length (stored.made_at apply 0 o) + 1 ≡ suc (number_of o)
+start_counted : (o : Option (Version Content)) → ((v : Version Content) → o ≡ Some v → v.number ≡ 1) → length (made_at apply as_made 0 o) + 1 ≡ suc (number_of o)
 start_counted None one = refl
 start_counted (Some v) one = ap suc (sym (one v refl))
 
@@ -102,12 +89,12 @@ start_one k (o ∷ os) v e = by (same_key k o.0) e (start_one k os v)
     by false e ih = ih e
 
 -- the versions of the history are those of the store, numbered from 1 on
-pub versions_numbered : (h : Story) (k : Key) → back.versions h k ≡ numbered 1 (stored.versions apply h k)
+pub versions_numbered : (h : Story) (k : Key) → versions_of apply as_seen h k ≡ numbered 1 (versions_of apply as_made h k)
 versions_numbered h k =
     let first = version_at_start apply k h.start in
     let one = start_one k h.start in
-    ap₂ (λ xs ys. xs ++ ys) (start_numbered first one) (later_numbered k 0 first h.events ∙ ap (λ j. numbered j (stored.later_versions apply k 0 first h.events)) (sym (start_counted first one)))
-    ∙ sym (numbered-append 1 (stored.made_at apply 0 first) (stored.later_versions apply k 0 first h.events))
+    ap₂ (λ xs ys. xs ++ ys) (start_numbered first one) (later_numbered k 0 first h.events ∙ ap (λ j. numbered j (later_versions apply as_made k 0 first h.events)) (sym (start_counted first one)))
+    ∙ sym (numbered-append 1 (made_at apply as_made 0 first) (later_versions apply as_made k 0 first h.events))
 
 numbered_get : (n i : ℕ) (ms : List (Made Content)) (m : Made Content) → slice_get ms i ≡ Some m → slice_get (numbered n ms) i ≡ Some (seen (i + n) m.content m.tick)
 numbered_get n i [] m e = absurd cc
@@ -119,27 +106,19 @@ numbered_get n (suc i) (x ∷ ms) m e = numbered_get (suc n) i ms m e ∙ ap (λ
     plus : (j : ℕ) → j + suc n ≡ suc j + n
     plus j = omega arith
 
-some_length : {A : Type 0} (i : ℕ) (xs : List A) (x : A) → slice_get xs i ≡ Some x → (j : ℕ) × (length xs ≡ suc j)
-some_length i [] x e = absurd cc
-some_length i (y ∷ xs) x e = (length xs, refl)
-
 -- what is read back
 pub reads_numbered :
     (h : Story) (k : Key) (lag number tick : ℕ) (c : Content) →
-    slice_get (stored.versions apply h k) (number - 1) ≡ Some (stored.made c tick) →
-    number ≡ stored.lowered (length (stored.versions apply h k)) (suc lag) →
-    back.read_back h k (suc lag) ≡ Some (seen number c tick)
+    slice_get (versions_of apply as_made h k) (number - 1) ≡ Some (made c tick) →
+    number ≡ lowered (length (versions_of apply as_made h k)) (suc lag) →
+    read_back h k (suc lag) ≡ Some (seen number c tick)
 reads_numbered h k lag number tick c e n =
-    let ms = stored.versions apply h k in
-    let l = some_length (number - 1) ms (stored.made c tick) e in
-    ap (λ xs. slice_get xs (length xs - 1 - suc lag)) (versions_numbered h k)
-    ∙ ap (λ j. slice_get (numbered 1 ms) (j - 1 - suc lag)) (numbered-length 1 ms)
-    ∙ ap (λ j. slice_get (numbered 1 ms) j) (place (length ms) number l.0 l.1 n)
-    ∙ numbered_get 1 (number - 1) ms (stored.made c tick) e
-    ∙ ap (λ j. Some (seen j c tick)) (back_up (length ms) number l.0 l.1 n)
+    let ms = versions_of apply as_made h k in
+    ap (λ xs. slice_get xs (lowered (length xs) (suc lag) - 1)) (versions_numbered h k)
+    ∙ ap (λ j. slice_get (numbered 1 ms) (lowered j (suc lag) - 1)) (numbered-length 1 ms)
+    ∙ ap (λ j. slice_get (numbered 1 ms) (j - 1)) (sym n)
+    ∙ numbered_get 1 (number - 1) ms (made c tick) e
+    ∙ ap (λ j. Some (seen j c tick)) (back_up (length ms) number n)
   where
-    place : (j n i : ℕ) → j ≡ suc i → n ≡ max (j - suc lag) 1 → j - 1 - suc lag ≡ n - 1
-    place j n i a b = omega (arith, a, b)
-
-    back_up : (j n i : ℕ) → j ≡ suc i → n ≡ max (j - suc lag) 1 → n - 1 + 1 ≡ n
-    back_up j n i a b = omega (arith, a, b)
+    back_up : (j n : ℕ) → n ≡ max (j - suc lag) 1 → n - 1 + 1 ≡ n
+    back_up j n a = omega (arith, a)

@@ -1,12 +1,12 @@
 -- A step of a worker that has one job is a step of a hand with other jobs behind that one.
 use Rattle.std.proofs.Common.{◌≡◌, ℕ, ◌+◌, ◌<◌, ◌≤◌, List, [], ◌∷◌, ◌++◌, map, Bool, true, false, refl, sym, ◌∙◌, ap, subst, Option, Some, None, Result, Ok, Err, arith}
+use Rattle.history.specs.Versions.{lag_after}
 use Rattle.law.specs.Documents.{Text, Document}
 use Rattle.law.specs.Contents.{PodObject, Story}
 use Rattle.next_step.specs.Views.{Seen, Views}
 use Rattle.next_step.specs.Next.{get, act}
 use Rattle.next_step.specs.Changes.{change_of}
 use Rattle.next_step.specs.Replies.{Reply, found, accepted, no_object, exists, conflict, fault, Job, goes_on, ended, after}
-use Rattle.next_step.specs.Backward.{lag_after}
 use Rattle.next_step.specs.Hands.{Given, for_flow, Hand, fresh_hand, with_job, CallNote, answer_of}
 use Rattle.next_step.specs.Plays.{Stepped, has_none, gets, changes, is_full, is_done, gets_pod, finishes, ends, get_note, change_note}
 use Rattle.reconcile_core.specs.declared.answers.Ended.TheVariants.{Done}

@@ -1,6 +1,5 @@
 pub mod Calls
 pub mod Inside
-pub mod Lags
 pub mod Under
 pub mod Viewed
 pub use Rattle.io_edge.specs.Cause

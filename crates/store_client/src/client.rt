@@ -6,7 +6,7 @@ ghost use Rattle.history.specs.History.{History, event};
 ghost use Rattle.object_store.specs.declared.refused.StoreRefused.TheVariants.{Fault};
 ghost use Rattle.object_store.specs.Entries.{MakesObject, ChangesObject};
 ghost use Rattle.object_store.specs.Answers.{IsOf};
-ghost use Rattle.store_client.specs.Lags.{lag_of, lag_after};
+ghost use Rattle.history.specs.Versions.{back_of, lag_after};
 ghost use Rattle.store_client.specs.Calls.{Got, Created, Wrote, Ticked, WillBeJustified, TickWillBeJustified, StaysLawful};
 
 use object_store::{Content, Snapshot, StoreRefused};
@@ -39,7 +39,7 @@ pub trait Client<T: Content> {
 
     /// The object of a key, as it is, or as it was where there is a lag.
     fn get(&mut self, key: &Key) -> Result<Snapshot<T>, StoreRefused>
-        ensures got { Got T.apply key.now (lag_of key.now (lag self.old))
+        ensures got { Got T.apply key.now (back_of key.now (lag self.old))
             (seen self.old) result (seen self.new) (others self.old) (others self.new) }
         ensures lag { lag self.new ≡ lag_after key.now (lag self.old) }
         ensures of { IfOk result (λ s. IsOf T.apply s (seen self.new)) }

@@ -1,7 +1,7 @@
 //! The client of a store on the caller's own thread.
 
 ghost use Rattle.std.specs.Prelude.{◌≡◌, ◌<◌, ℕ};
-ghost use Rattle.store_client.specs.Lags.{lag_of, lag_after};
+ghost use Rattle.history.specs.Versions.{back_of, lag_after};
 
 use crate::Client;
 use io_edge::Outage;
@@ -46,7 +46,7 @@ impl<'a, T: Content, O: Outage> MemClient<'a, T, O> {
 
     // The lag of a get, which uses it up.
     fn take_lag(&mut self, key: &Key) -> u64
-        ensures taken { result ≡ lag_of key.now self.old.lag }
+        ensures taken { result ≡ back_of key.now self.old.lag }
         ensures lag { self.new.lag ≡ lag_after key.now self.old.lag }
         ensures store { self.new.store.now ≡ self.old.store.now }
         ensures place { self.new.store.ghost_name ≡ self.old.store.ghost_name }
