@@ -52,7 +52,8 @@ fn follow<O: Outage>(
 /// whose steps makes one call at most; and then drops the hands with their jobs and does rounds until nothing is due, as `sweep`
 /// does.
 ///
-/// StoreFault only where the store's last sixteen calls failed; TooLarge exactly where, at the end, some workflow is full.
+/// StoreFault only where sixteen calls of the store in a row had failed; TooLarge exactly where, at the end, some workflow is
+/// full.
 pub fn simulate<O: Outage>(
     alloc: Global,
     store: &mut Store<WfContent, O>,

@@ -89,7 +89,7 @@ fn submit<O: Outage>(
 
 /// Submits the workflows of the document, in their order, but those that the store has.
 ///
-/// StoreFault only where the store's last sixteen calls failed.
+/// StoreFault only where sixteen calls of the store in a row had failed.
 pub(crate) fn submit_all<O: Outage>(
     alloc: Global,
     store: &mut Store<WfContent, O>,

@@ -121,7 +121,8 @@ fn end_with(full: Names) -> Result<(), RunEnd>
 /// happened the clock goes to the next tick at which something is due. A worker's job that would find nothing to do, by
 /// what it found the last time and by the entries since then, is passed.
 ///
-/// StoreFault only where the store's last sixteen calls failed; TooLarge exactly where, at the end, some workflow is full.
+/// StoreFault only where sixteen calls of the store in a row had failed; TooLarge exactly where, at the end, some workflow is
+/// full.
 pub fn sweep<O: Outage>(
     alloc: Global,
     store: &mut Store<WfContent, O>,

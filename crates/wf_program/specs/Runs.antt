@@ -169,7 +169,7 @@ RunEnds m before D s k Done text = RanIn m before D k [] × (text ≡ run_text s
 -- Nothing is due but in these workflows. The text shows the run, and names them.
 RunEnds m before D s k TooLarge text = (full : List (List ℕ)) × RanIn m before D k full × (full ≢ [])
     × (text ≡ run_text s.summary s.history k.history ++ too_large_text full)
--- The last sixteen calls of the store failed. What it keeps is lawful.
+-- Sixteen calls of the store in a row failed. What it keeps is lawful.
 RunEnds m before D s k StoreFault text =
     IsLawful (law_of D) k.history × (k.row ≡ most_faults) × (text ≡ fixed_text StoreFault)
 -- Memory was wanting. What the store keeps is lawful.
