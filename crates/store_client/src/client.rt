@@ -1,6 +1,6 @@
 //! The calls of a client.
 
-ghost use Rattle.std.specs.Prelude.{◌≡◌, ◌≤◌, ◌<◌, ◌^◌, ℕ, Some, None, Err, IfOk, length};
+ghost use Rattle.std.specs.Prelude.{◌≡◌, ◌≢◌, ◌≤◌, ◌<◌, ◌^◌, ℕ, Some, None, Err, IfOk, length};
 ghost use Rattle.io_edge.specs.Cause.{Rose};
 ghost use Rattle.history.specs.History.{History, event};
 ghost use Rattle.object_store.specs.declared.refused.StoreRefused.TheVariants.{Fault};
@@ -20,7 +20,7 @@ pub trait Client<T: Content> {
     /// The law of that history.
     ghost law: { Self → T.Law };
 
-    /// How many entries of others it has seen since it was made.
+    /// Rises by one with each entry of others that it comes to see. What it begins with says nothing.
     ghost others: { Self → ℕ };
 
     /// How many versions back its next get reads.
@@ -49,6 +49,7 @@ pub trait Client<T: Content> {
         ensures law { law self.new ≡ law self.old }
         ensures place { place self.new ≡ place self.old }
         ensures faults { faults self.old ≤ faults self.new }
+        ensures still { result ≢ Err Fault → faults self.new ≡ faults self.old }
         ensures rose { result ≡ Err Fault → rose self.old self.new }
         ensures cause { result ≡ Err Fault → Rose (faults self.old) (faults self.new) };
 
@@ -68,6 +69,7 @@ pub trait Client<T: Content> {
         ensures law { law self.new ≡ law self.old }
         ensures place { place self.new ≡ place self.old }
         ensures faults { faults self.old ≤ faults self.new }
+        ensures still { result ≢ Err Fault → faults self.new ≡ faults self.old }
         ensures rose { result ≡ Err Fault → rose self.old self.new }
         ensures cause { result ≡ Err Fault → Rose (faults self.old) (faults self.new) };
 
@@ -93,6 +95,7 @@ pub trait Client<T: Content> {
         ensures law { law self.new ≡ law self.old }
         ensures place { place self.new ≡ place self.old }
         ensures faults { faults self.old ≤ faults self.new }
+        ensures still { result ≢ Err Fault → faults self.new ≡ faults self.old }
         ensures rose { result ≡ Err Fault → rose self.old self.new }
         ensures cause { result ≡ Err Fault → Rose (faults self.old) (faults self.new) };
 
@@ -108,6 +111,7 @@ pub trait Client<T: Content> {
         ensures law { law self.new ≡ law self.old }
         ensures place { place self.new ≡ place self.old }
         ensures faults { faults self.old ≤ faults self.new }
+        ensures still { result ≢ Err Fault → faults self.new ≡ faults self.old }
         ensures rose { result ≡ Err Fault → rose self.old self.new }
         ensures cause { result ≡ Err Fault → Rose (faults self.old) (faults self.new) };
 }

@@ -1,6 +1,6 @@
 //! The client of a store that other workers use too, under a turn.
 
-ghost use Rattle.std.specs.Prelude.{◌≡◌, ◌≤◌, ◌-◌, length, Some, Err};
+ghost use Rattle.std.specs.Prelude.{◌≡◌, ◌≢◌, ◌≤◌, ◌-◌, length, Some, Err};
 ghost use Rattle.io_edge.specs.Cause.{Rose};
 ghost use Rattle.object_store.specs.declared.refused.StoreRefused.TheVariants.{Fault};
 ghost use Rattle.store_client.specs.Under.{seen_of, start_in, LawIs, AtTurn};
@@ -33,6 +33,7 @@ pub struct TurnClient<'a, T: Content, O: Outage, G: Gate, R: Wait> {
 // One more, where the call was answered Fault.
 fn faults_after<T>(faults: u64, answer: &Result<T, StoreRefused>) -> u64
     ensures rises { faults ≤ result }
+    ensures still { answer.now ≢ Err Fault → result ≡ faults }
     ensures cause { answer.now ≡ Err Fault → Rose faults result }
 {
     match answer {
