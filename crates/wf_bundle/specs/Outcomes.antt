@@ -1,7 +1,6 @@
 -- What is planned for the pods of a document. The resource `PodOutcomes`, which says it, is this project's own.
 use Rattle.std.specs.Prelude.{ℕ, List, [], ◌∷◌, ◌++◌, Bool, true, not, ◌&&◌, Option, Some, None, option_map, bytes_eq}
 use Rattle.std.specs.List.{find, list_any}
-use Rattle.tree_types.specs.declared.outcome.Outcome.{Outcome}
 use Rattle.item_reader.specs.declared.outcome.PlannedOutcome.{PlannedOutcome}
 use Rattle.item_reader.specs.declared.outcomes.PlannedPod.{PlannedPod}
 use Rattle.item_reader.specs.declared.outcomes.Plan.{Plan}
@@ -21,26 +20,10 @@ named workflow node pods = option_map (λ pod. pod.outcome) (find (is_for workfl
 abbrev pub planned_for : Plan → List ℕ → List ℕ → Option PlannedOutcome
 planned_for plan workflow node = or_default plan.default (named workflow node plan.pods)
 
--- an outcome without ticks
-abbrev pub outcome_of : PlannedOutcome → Outcome
-outcome_of o = record {
-  phase = o.phase;
-  result = o.result;
-  params = o.params;
-  transient = o.transient;
-  begin = 0;
-  finish = 0;
-  ended = o.ended;
-}
-
--- what is planned for the nodes of a workflow, by their names
-abbrev pub planned : Plan → List ℕ → List ℕ → Option Outcome
-planned plan workflow node = option_map outcome_of (planned_for plan workflow node)
-
 -- ---- pods
 
 abbrev pub is_same_pod : PlannedPod → PlannedPod → Bool
-is_same_pod p q = bytes_eq p.workflow q.workflow && bytes_eq p.node q.node
+is_same_pod p q = is_for p.workflow p.node q
 
 abbrev pub pods_differ_from : List PlannedPod → List PlannedPod → Bool
 pods_differ_from before [] = true
