@@ -4,28 +4,23 @@ use Rattle.std.specs.List.{list_any}
 use Rattle.tree_types.specs.declared.path.Path.{Path}
 use Rattle.tree_types.specs.declared.path.LockId.{LockId}
 use Rattle.tree_types.specs.declared.phase.Phase.{Phase}
-use Rattle.tree_types.specs.declared.phase.Phase.TheVariants as phase
 use Rattle.tree_types.specs.declared.fact.Fact.TheVariants as fact
 use Rattle.tree_types.specs.declared.node.Kind.{Kind}
-use Rattle.tree_types.specs.declared.node.Kind.TheVariants as kind
 use Rattle.tree_types.specs.declared.node.Node.{Node}
 use Rattle.tree_types.specs.declared.want.Want.{Want}
 use Rattle.tree_types.specs.declared.want.Want.TheVariants as want
 use Rattle.tree_types.specs.declared.entry.Key.{Key}
 use Rattle.tree_types.specs.declared.entry.Key.TheVariants as of_key
-use Rattle.tree_types.specs.Phases.{fulfilled}
 use Rattle.tree_types.specs.Journals.{knows}
 use Rattle.wf_manifest.specs.declared.manifest.Manifest.{Manifest}
-use Rattle.meaning.specs.Answers.{Sels, path, first_of, armed_in}
+use Rattle.meaning.specs.Answers.{Sels}
 use Rattle.books.specs.declared.Request.{Request}
-use Rattle.books.specs.Books.{request_of, is_holding}
+use Rattle.books.specs.Books.{request_of}
 use Rattle.saves.specs.declared.Saved.{Saved}
-use Rattle.saves.specs.Saves.{look, has_saved}
-use Rattle.suspend_resume.specs.Suspension.{reaches}
 use Rattle.law.specs.Documents.{Text, Command, Resume, Resubmit, Document}
 use Rattle.law.specs.Contents.{Flow, PodObject, Book}
-use Rattle.law.specs.Justified.{tree_of, wants_of, key, rank}
-use Rattle.law.specs.Due.{Matter, record_fact, file, create, save, release, submit, node_name, name_at, is_over}
+use Rattle.law.specs.Justified.{tree_of, wants_of, key}
+use Rattle.law.specs.Due.{Matter, record_fact, create, submit, node_name, is_over, settled_by, granted_if, granted_by, filed_if, memo_of, armed_at, rung_at, resumes_at, resumed_if, resumed_by, saved_by, released_if, released_at, released_by, released_own}
 use Rattle.next_step.specs.Views.{Seen, Look, Views, look_at, pod_seen, head, first_given}
 
 -- a read, one change, or the end of the job
@@ -79,9 +74,7 @@ module _ (D : Document) (w : Text) (v : Views) (s : Seen Flow) where
   pod_at p = option_and_then (pod_seen v) (node_name s.content p)
 
   abbrev pub settling : Want → Option Matter
-  settling (want.Pod p) =
-      option_map (λ o. record_fact (fact.Settled p o)) (option_and_then (λ pod. pod.outcome) (pod_at p.sels))
-  settling _ = None
+  settling = settled_by pod_at
 
   abbrev pub settle : Step
   settle = acting (asked settling)
@@ -91,12 +84,10 @@ module _ (D : Document) (w : Text) (v : Views) (s : Seen Flow) where
   request_in p o = option_and_then (λ b. request_of b.content.requests (key w p)) o
 
   abbrev pub if_holding : Path → Option Request → Option Matter
-  if_holding p None = None
-  if_holding p (Some r) = if is_holding r.state then Some (record_fact (fact.Granted p)) else None
+  if_holding = granted_if
 
   abbrev pub granting : Want → Option Matter
-  granting (want.Lock p l) = if_holding p (request_in p v.book)
-  granting _ = None
+  granting = granted_by (λ p. request_in p v.book)
 
   abbrev pub grant : Step
   grant = acting (asked granting)
@@ -104,9 +95,7 @@ module _ (D : Document) (w : Text) (v : Views) (s : Seen Flow) where
   -- ---- a filing, of a path that waits and that the book does not know
 
   abbrev pub if_unknown : Path → LockId → Option Request → Option Matter
-  if_unknown p l None =
-      option_map (λ n. file l (key w p) (rank s.content.manifest p.sels n)) (name_at s.content p.sels)
-  if_unknown p l (Some r) = None
+  if_unknown = filed_if w s.content
 
   abbrev pub filing : Want → Option Matter
   filing (want.Lock p l) =
@@ -125,7 +114,7 @@ module _ (D : Document) (w : Text) (v : Views) (s : Seen Flow) where
 
   -- Memo, with the answer of the saves at the tick at which they were read
   abbrev pub looked_up : Path → Text → Text → Option ℕ → Seen (List Saved) → Option Matter
-  looked_up p cache entry age c = Some (record_fact (fact.Memo p (look c.content cache entry c.tick age)))
+  looked_up p cache entry age c = memo_of c.content c.tick p cache entry age
 
   abbrev pub looking : Want → Step
   looking (want.LookUp p cache entry age) = by_saves v.saves (looked_up p cache entry age)
@@ -136,33 +125,27 @@ module _ (D : Document) (w : Text) (v : Views) (s : Seen Flow) where
 
   -- Armed, at the view's tick
   abbrev pub arming : Want → Option Matter
-  arming (want.Arming p) = Some (record_fact (fact.Armed p s.tick))
-  arming _ = None
+  arming = armed_at s.tick
 
   abbrev pub arm : Step
   arm = acting (asked arming)
 
   -- Due, of a timer that the view's tick has reached
   abbrev pub timing : Want → Option Matter
-  timing (want.Timer p tick) = if nat_le tick s.tick then Some (record_fact (fact.Due p)) else None
-  timing _ = None
+  timing = rung_at s.tick
 
   abbrev pub ring : Step
   ring = acting (asked timing)
 
   -- Resumed, of a suspended node that a command resumes
   abbrev pub resumes : ℕ → Command → Bool
-  resumes armed (Resume c) = bytes_eq c.workflow w && reaches armed c.tick s.tick
-  resumes armed (Resubmit c) = false
+  resumes = resumes_at D w s.content s.tick
 
   abbrev pub resumed_node : Node → Option ℕ → Option Matter
-  resumed_node n None = None
-  resumed_node n (Some armed) =
-      if list_any (resumes armed) D.commands then Some (record_fact (fact.Resumed n.path)) else None
+  resumed_node = resumed_if D w s.content s.tick
 
   abbrev pub resuming_by : Node → Kind → Phase → Option Matter
-  resuming_by n kind.Suspend phase.Running = resumed_node n (first_of (armed_in n.path.sels) s.content.journal)
-  resuming_by n _ _ = None
+  resuming_by = resumed_by D w s.content s.tick
 
   abbrev pub resuming : Node → Option Matter
   resuming n = resuming_by n n.kind n.phase
@@ -186,9 +169,7 @@ module _ (D : Document) (w : Text) (v : Views) (s : Seen Flow) where
   -- ---- a save that is asked for, and not among the saves
 
   abbrev pub saving : List Saved → Want → Option Matter
-  saving ss (want.Save p cache entry o) =
-      if has_saved (key w p) ss then None else Some (save cache entry (key w p) o)
-  saving ss _ = None
+  saving = saved_by w
 
   abbrev pub is_save : Want → Bool
   is_save (want.Save p cache entry o) = true
@@ -203,18 +184,16 @@ module _ (D : Document) (w : Text) (v : Views) (s : Seen Flow) where
   -- ---- the release of a lock that is held; the workflow's own stands before all others
 
   abbrev pub release_held : Path → Option Request → Option Matter
-  release_held p None = None
-  release_held p (Some r) = if is_holding r.state then Some (release r.lock (key w p)) else None
+  release_held = released_if w
 
   abbrev pub release_own : Option Matter
-  release_own = if is_over s.content then release_held (path []) (request_in (path []) v.book) else None
+  release_own = released_own w s.content (λ p. request_in p v.book)
 
   abbrev pub release_node : Sels → Path → Option Matter
-  release_node [] p = None
-  release_node (t ∷ q) p = release_held p (request_in p v.book)
+  release_node = released_at w (λ p. request_in p v.book)
 
   abbrev pub releasing : Node → Option Matter
-  releasing n = if fulfilled n.phase then release_node n.path.sels n.path else None
+  releasing = released_by w (λ p. request_in p v.book)
 
   abbrev pub release_one : Step
   release_one = acting (head (option_to_list release_own ++ filter_map releasing (tree_of s.content)))
