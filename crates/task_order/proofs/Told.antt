@@ -1,6 +1,6 @@
 -- What the sets of places tell of tasks.
-use Rattle.std.proofs.Common.{◌≡◌, ℕ, ◌<◌, Bool, true, false, not, IsTrue, List, length, Option, Some, None, sym, ap, ◌∙◌, subst, arith}
-use Rattle.std.specs.Prelude.{is_some, IfSome, IfNone}
+use Rattle.std.proofs.Common.{◌≡◌, ℕ, ◌<◌, List, length, Option, Some, None, sym, ◌∙◌, subst, arith}
+use Rattle.std.specs.Prelude.{IfSome, IfNone}
 use Rattle.wf_manifest.specs.Valid.{HasRank}
 use Rattle.wf_manifest.specs.declared.calls.Task.{Task}
 use Rattle.task_order.specs.declared.places.Places.{Places}
@@ -35,13 +35,9 @@ module _ (tasks : List Task) (table : List (List ℕ)) (waits : List (List ℕ))
 
 -- ---- what is told where places were put in order, or not
 
-pub rank_told : {V : Type 0} (items : V → List ℕ) (tasks : List Task) (table waits : List (List ℕ)) (g : IsGraph tasks table waits) (found : Option V) (circle : Bool) → is_some found ≡ not circle → IfSome found (λ o. IsOrder waits (items o)) → IsTrue (not circle) → HasRank tasks
-rank_told items tasks table waits g None circle is ordered t = absurd (let both : false ≡ true = is ∙ t in cc)
-rank_told items tasks table waits g (Some o) circle is ordered t = has_rank tasks table waits (items o) g ordered
-
-pub circle_told : {V : Type 0} (tasks : List Task) (table waits : List (List ℕ)) (g : IsGraph tasks table waits) (found : Option V) (circle : Bool) → is_some found ≡ not circle → IfNone found ((v : ℕ) × Reaches waits v v) → IsTrue circle → HasOwnAncestor tasks
-circle_told tasks table waits g None circle is (v, reaches) t = own_ancestor tasks table waits g v reaches
-circle_told tasks table waits g (Some o) circle is none t = absurd (let both : true ≡ false = is ∙ ap not t in cc)
+pub rank_found : {V : Type 0} (items : V → List ℕ) (tasks : List Task) (table waits : List (List ℕ)) (g : IsGraph tasks table waits) (found : Option V) (order : V) → found ≡ Some order → IfSome found (λ o. IsOrder waits (items o)) → HasRank tasks
+rank_found items tasks table waits g None order is ordered = absurd cc
+rank_found items tasks table waits g (Some o) order is ordered = has_rank tasks table waits (items o) g ordered
 
 pub own_found : {V : Type 0} (tasks : List Task) (table waits : List (List ℕ)) (g : IsGraph tasks table waits) (found : Option V) → found ≡ None → IfNone found ((v : ℕ) × Reaches waits v v) → HasOwnAncestor tasks
 own_found tasks table waits g None is (v, reaches) = own_ancestor tasks table waits g v reaches

@@ -2,6 +2,7 @@
 
 ghost use Rattle.std.specs.Prelude.{◌≡◌, ◌↔◌, IfOk, IfSome, IfNone, IsTrue, Some, slice_get};
 ghost use Rattle.wf_manifest.specs.declared.calls.Task.{Task as OneTask};
+ghost use Rattle.wf_manifest.specs.Valid.{HasRank};
 ghost use Rattle.task_order.specs.Ancestors.{IsAncestor, HasOwnAncestor};
 
 use crate::graph::graph_of;
@@ -44,6 +45,9 @@ impl<'a> Ancestors<'a> {
     pub fn new(alloc: Global, tasks: &'a [Task]) -> Result<Option<Ancestors<'a>>, Memory>
         ensures some { IfOk result (λ made.
             IfSome made (λ ancestors. ancestors ≡ tasks.entry.now)) }
+        // Where they are given, each task stands higher than those that it waits for, so that none is its own ancestor.
+        ensures ranked { IfOk result (λ made. IfSome made (λ ancestors. HasRank tasks.entry.now)) }
+        // Where they are not, some task is its own ancestor.
         ensures none { IfOk result (λ made. IfNone made (HasOwnAncestor tasks.entry.now)) }
     {
         let graph = graph_of(alloc, tasks)?;

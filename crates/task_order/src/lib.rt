@@ -3,7 +3,6 @@
 #![tactic(auto)]
 
 mod ancestors;
-mod circles;
 mod graph;
 pub mod law;
 mod names;
@@ -14,7 +13,6 @@ mod stage;
 mod walk;
 
 pub use ancestors::Ancestors;
-pub use circles::has_circle;
 pub use names::{NameTable, table_of};
 pub use ordering::order_of;
 pub use rows::{places_named, rows_of};

@@ -1,10 +1,9 @@
 -- The tests of ancestors and of circles tell what the relations of tasks say.
-use Rattle.std.proofs.Common.{◌≡◌, ◌↔◌, ℕ, zero, suc, Bool, true, false, ◌&&◌, ◌||◌, ◌⊎◌, List, length, Option, Some, None, Result, Ok, Err, not, refl, sym, ap, ◌∙◌, subst, inl, inr}
-use Rattle.std.specs.Prelude.{bytes_eq, IsTrue, is_none, IfOk, IfSome, IfNone}
+use Rattle.std.proofs.Common.{◌≡◌, ◌↔◌, ℕ, zero, suc, Bool, true, false, ◌&&◌, ◌||◌, ◌⊎◌, List, length, Option, Some, None, refl, sym, ap, ◌∙◌, subst, inl, inr}
+use Rattle.std.specs.Prelude.{bytes_eq, IsTrue, is_none, IfSome, IfNone}
 use Rattle.std.specs.List.{list_any}
 use Rattle.std.proofs.lemmas.Bool.{cases_Bool}
 use Rattle.base_types.specs.Names.{is_among}
-use Rattle.base_types.specs.declared.memory.Memory.{Memory}
 use Rattle.wf_manifest.specs.declared.calls.Task.{Task}
 use Rattle.wf_manifest.specs.Valid.{waits_for, HasRank}
 use Rattle.task_order.specs.Ancestors.{names, Waits, IsAncestor, parent, above, HasOwnAncestor}
@@ -122,15 +121,10 @@ module _ (tasks : List Task) where
       same_test answer (is_ancestor tasks name task) (IsAncestor tasks name task) same (is_told name task) (is_shown name task)
       ∙ ap (λ b. b || is_ancestor tasks name task) (sym is.1)
 
-  -- where there is no circle, the ancestors are known
-  pub made_known : (made : Result (Option (List Task)) Memory) → HasRank tasks → IfOk made (λ known. IfSome known (λ ancestors. ancestors ≡ tasks)) → IfOk made (λ known. IfNone known (HasOwnAncestor tasks)) → IfOk made (λ known. IsKnown tasks known)
-  made_known (Err e) rank some none = tt
-  made_known (Ok None) rank some none = circle_shown none
-  made_known (Ok (Some known)) rank some none = (some, ranked rank)
-
-  pub made_or_circle : (circle : Bool) → (IsTrue (not circle) → HasRank tasks) → circle ≡ false → HasRank tasks
-  made_or_circle true none e = absurd cc
-  made_or_circle false none e = none refl
+  -- the ancestors are known exactly where there is no circle
+  pub made_known : (made : Option (List Task)) → IfSome made (λ ancestors. ancestors ≡ tasks) → IfSome made (λ ancestors. HasRank tasks) → IfNone made (HasOwnAncestor tasks) → IsKnown tasks made
+  made_known None some rank none = circle_shown none
+  made_known (Some known) some rank none = (some, ranked rank)
 
 pub asked_answer : (inside tasks : List Task) (kept : Option (List Task)) (known : List Task) (name task n t : List ℕ) (answer : Bool) → inside ≡ tasks → IsKnown inside kept → kept ≡ Some known → n ≡ name → t ≡ task → IsTrue answer ↔ IsAncestor known n t → answer ≡ (has_circle tasks || is_ancestor tasks name task)
 asked_answer inside tasks kept known name task n t answer are keeps is named waiting told =

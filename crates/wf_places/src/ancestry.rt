@@ -2,12 +2,11 @@
 
 ghost use Rattle.std.specs.Prelude.{◌≡◌, ◌||◌, IfOk};
 ghost use Rattle.wf_places.specs.Circles as circles;
-ghost use Rattle.wf_places.specs.Inside.Ancestry.{IsKnown};
 
 use base_types::{Memory, Text};
 use std::alloc::Global;
 use std::marker::Model;
-use task_order::{Ancestors, has_circle};
+use task_order::Ancestors;
 use wf_manifest::Task;
 
 /// What the tasks of a DAG wait for in the end. Contracts see it as the tasks.
@@ -39,7 +38,7 @@ impl<'a> Ancestry<'a> {
     pub(crate) fn new(alloc: Global, tasks: &'a [Task]) -> Result<Ancestry<'a>, Memory>
         ensures { IfOk result (λ ancestry. ancestry ≡ tasks.entry.now) }
     {
-        let known = ancestors_of(alloc, tasks)?;
+        let known = Ancestors::new(alloc, tasks)?;
         Ok(Ancestry { tasks, known })
     }
 
@@ -61,13 +60,4 @@ impl<'a> Ancestry<'a> {
             Some(known) => known.waits_for(task.as_str(), name.as_str()),
         }
     }
-}
-
-fn ancestors_of<'a>(alloc: Global, tasks: &'a [Task]) -> Result<Option<Ancestors<'a>>, Memory>
-    ensures { IfOk result (λ known. IsKnown tasks.entry.now known) }
-{
-    if has_circle(alloc, tasks)? {
-        return Ok(None);
-    }
-    Ancestors::new(alloc, tasks)
 }
