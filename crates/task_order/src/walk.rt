@@ -10,7 +10,7 @@ use crate::stage::Stage;
 use base_types::{List, Memory};
 use std::alloc::Global;
 
-/// How far each place has come, which of its rows' places were passed, the places in order, and those that are open.
+/// How far each place has come, how many places of its row were passed, the places in order, and those that are open.
 #[derive(Drop)]
 pub(crate) struct Walk {
     pub(crate) stages: Vec<Stage>,

@@ -9,7 +9,7 @@ use std::alloc::Global;
 use std::collections::HashMap;
 use std::marker::Model;
 use tree_types::Limit;
-use wf_manifest::{Argument, Call, Input, OutputDecl, Template};
+use wf_manifest::{Argument, Input, OutputDecl, Template};
 
 /// What has a name.
 pub(crate) trait Named {
@@ -45,14 +45,6 @@ impl Named for OutputDecl {
 
 impl Named for Template {
     ghost name_of = { λ template. template.name };
-
-    fn name(&self) -> &Text {
-        &self.name
-    }
-}
-
-impl Named for Call {
-    ghost name_of = { λ call. call.name };
 
     fn name(&self) -> &Text {
         &self.name

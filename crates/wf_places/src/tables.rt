@@ -138,7 +138,7 @@ impl<'a> TemplateTable<'a> {
         }
     }
 
-    /// Whether a name is that of a template.
+    /// Whether the name is among those of the first so many.
     pub(crate) fn is_before(&self, count: usize, name: &Text) -> bool
         ensures { result ≡ is_among (take count (valid.template_names self.now)) name.now }
     {
