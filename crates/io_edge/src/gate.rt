@@ -11,16 +11,6 @@ pub trait Gate {
     fn answered(&self, worker: u32, call: u64);
 }
 
-/// Holds nothing.
-#[derive(Clone, Copy, Debug)]
-pub struct OpenGate;
-
-impl Gate for OpenGate {
-    fn began(&self, _worker: u32, _call: u64) {}
-
-    fn answered(&self, _worker: u32, _call: u64) {}
-}
-
 /// How often the gate looks whether the held call may go on.
 const LOOKS: u64 = 1_000_000_000;
 

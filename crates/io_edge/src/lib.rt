@@ -15,7 +15,7 @@ mod standard;
 mod transfer;
 
 pub use call_plan::CallNumbers;
-pub use gate::{Gate, HoldGate, OpenGate};
+pub use gate::{Gate, HoldGate};
 pub use memory_sink::MemSink;
 pub use memory_source::MemSource;
 pub use outage::{NoOutage, Outage, PlannedOutage};

@@ -42,7 +42,7 @@ impl Outage for NoOutage {
     }
 }
 
-/// Fails the calls of a plan, by their numbers. The greatest number is no call's: from there on calls go through.
+/// Fails the calls of a plan, by their numbers. Once 2^64 - 1 calls were asked all go through.
 #[derive(Drop)]
 pub struct PlannedOutage {
     failing: CallNumbers,
