@@ -138,7 +138,8 @@ pub fn sweep<O: Outage>(
     runs_keep_pace();
     submit_all(alloc, store, document)?;
     let mut roster = Roster::of(alloc, store, document)?;
-    // A round is followed by another only where an entry came or a call failed: no memory holds so many.
+    // A round is followed by another only where an entry came or a call failed: no memory holds so many entries, nor the numbers
+    // of so many calls that are to fail.
     'rounds: for _ in 0..u64::MAX {
         if let Some(full) = turn(alloc, store, document, &mut roster)? {
             return end_with(full);

@@ -60,7 +60,7 @@ module _ {E B : Type 0} where
       pub each : (k : ℕ) → sum_by (has_that k) s.views ≡ within next drawn k
       pub shares : sum_by (λ v. v.share) s.views ≡ whole_share
       pub views : (id : ℕ) (v : View E B) → get_elem? s.views id ≡ some v → ViewOk fixed next entries v
-      -- a seat with a share has seen all entries
+      -- some seat with a share has seen all entries
       pub full : SomeSeat (HasSeen entries) s.views
       -- no entry has two places, be it with one seat or with two
       pub places : (x : ℕ) → sum_by (λ v. times x v.places) s.views ≤ within 0 entries x
