@@ -1,6 +1,6 @@
 //! What makes calls of the store fail.
 
-ghost use Rattle.std.specs.Prelude.{◌≡◌, ℕ, Bool, ◌<◌, ◌≤◌, true, false, length, not};
+ghost use Rattle.std.specs.Prelude.{◌≡◌, ℕ, Bool, ◌+◌, ◌≤◌, true, false, length, not};
 ghost use Rattle.io_edge.specs.Outages.{Plan, plan, fails, after_asking};
 
 use crate::CallNumbers;
@@ -20,7 +20,7 @@ pub trait Outage: Drop {
     /// Whether the next call goes through.
     fn pass(&mut self) -> bool
         ensures asked { asked self.old result self.new }
-        ensures failed { result ≡ false → faults self.old < faults self.new }
+        ensures failed { result ≡ false → faults self.new ≡ faults self.old + 1 }
         ensures passed { result ≡ true → faults self.new ≡ faults self.old }
         ensures bound { faults self.new ≤ most self.new }
         ensures most { most self.new ≡ most self.old };

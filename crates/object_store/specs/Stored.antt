@@ -1,5 +1,5 @@
 -- What contracts see of a store, and what each of its calls leaves of its outage and of its count of faults.
-use Rattle.std.specs.Prelude.{◌≡◌, ℕ, ◌+◌, ◌<◌, ◌≤◌, Bool, true, false, not, ◌==◌, if◌then◌else◌, Result}
+use Rattle.std.specs.Prelude.{◌≡◌, ℕ, ◌+◌, ◌≤◌, Bool, true, false, not, ◌==◌, if◌then◌else◌, Result}
 use Rattle.history.specs.History.{History}
 use Rattle.object_store.specs.declared.refused.StoreRefused.{StoreRefused}
 use Rattle.object_store.specs.Answers.{is_fault}
@@ -19,12 +19,17 @@ abbrev pub row_after : {T : Type 0} → ℕ → Result T StoreRefused → ℕ
 row_after row result = if row == most_faults then most_faults else (if is_fault result then row + 1 else 0)
 
 -- The outage was asked once, and the call answered Fault exactly where it did not let it pass. There alone its faults
--- rose. They are never more than its bound, which stays.
+-- rose, by one. They are never more than its bound, which stays.
 pub record Asked
     {O T : Type 0} (faults most : O → ℕ) (asked : O → Bool → O → Type 0) (old new : O) (result : Result T StoreRefused)
     : Type 0 where
   pub once : asked old (not (is_fault result)) new
-  pub rose : is_fault result ≡ true → faults old < faults new
+  pub rose : is_fault result ≡ true → faults new ≡ faults old + 1
   pub stood : is_fault result ≡ false → faults new ≡ faults old
   pub bound : faults new ≤ most new
   pub same_bound : most new ≡ most old
+
+-- So many of some calls failed: the faults rose by as many, and at most as many more failed in a row.
+pub record FailedBy {S : Type 0} (faults row : S → ℕ) (n : ℕ) (before after : S) : Type 0 where
+  pub risen : faults after ≡ faults before + n
+  pub in_row : row after ≤ row before + n

@@ -1,4 +1,5 @@
 pub mod Inside
+pub mod Counting
 pub mod Sweeping
 pub mod HandCode
 pub mod Simulating

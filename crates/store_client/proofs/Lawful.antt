@@ -1,5 +1,5 @@
 -- A history stays lawful over the calls of a client.
-use Rattle.std.proofs.Common.{◌≡◌, ◌≢◌, ℕ, ◌<◌, ◌≤◌, Bool, true, false, ap, subst, refl, sym, arith}
+use Rattle.std.proofs.Common.{◌≡◌, ℕ, ap, subst, sym}
 use Rattle.std.specs.Prelude.{List, Option, None, Result, Ok, Err}
 use Rattle.tree_types.specs.declared.entry.Key.{Key}
 use Rattle.tree_types.specs.declared.entry.Entry.{Entry}
@@ -8,25 +8,9 @@ use Rattle.history.specs.History.{History, Event, event, number_of, grown, clock
 use Rattle.history.proofs.Extends.{extends_itself, lawful-grown}
 use Rattle.object_store.specs.declared.snapshot.Snapshot.{Snapshot}
 use Rattle.object_store.specs.declared.refused.StoreRefused.{StoreRefused}
-use Rattle.object_store.specs.declared.refused.StoreRefused.TheVariants as refused
-use Rattle.object_store.specs.Answers.{is_fault, CreateGives, WriteGives, TickGives, Adds}
+use Rattle.object_store.specs.Answers.{CreateGives, WriteGives, TickGives, Adds}
 use Rattle.object_store.specs.LawfulHistories.{IsLawful}
 use Rattle.store_client.specs.Calls.{WillBeJustified, TickWillBeJustified, StaysLawful}
-
--- a count that rises where a call failed and stands elsewhere never falls
-pub never_falls : (fault : Bool) (old new : ℕ) → (fault ≡ true → old < new) → (fault ≡ false → new ≡ old) → old ≤ new
-never_falls true old new rose stood = let r = rose refl in omega arith
-never_falls false old new rose stood = let s = stood refl in omega arith
-
--- and stands where the call was not answered Fault
-pub stands_by : {T : Type 0} (r : Result T StoreRefused) (old new : ℕ) → (is_fault r ≡ false → new ≡ old) → r ≢ Err refused.Fault → new ≡ old
-stands_by (Ok s) old new stood n = stood refl
-stands_by (Err refused.NoObject) old new stood n = stood refl
-stands_by (Err refused.Exists) old new stood n = stood refl
-stands_by (Err (refused.Conflict e f)) old new stood n = stood refl
-stands_by (Err (refused.Behind clock)) old new stood n = stood refl
-stands_by (Err refused.Fault) old new stood n = absurd (n refl)
-stands_by (Err refused.Memory) old new stood n = stood refl
 
 module _ {L C : Type 0} (begins : L → List (Key × C) → Type 0) (justified : L → History C → Event C → Type 0) (law : L) (apply : C → Entry → Option C) (h g : History C) where
   same : g ≡ h → StaysLawful begins justified law h g

@@ -1,3 +1,4 @@
 pub mod Crossing
+mod Faults
 mod Kept
 mod Lawful

@@ -6,6 +6,7 @@ ghost use Rattle.history.specs.History.{History, event};
 ghost use Rattle.object_store.specs.declared.refused.StoreRefused.TheVariants.{Fault};
 ghost use Rattle.object_store.specs.Entries.{MakesObject, ChangesObject};
 ghost use Rattle.object_store.specs.Answers.{IsOf};
+ghost use Rattle.object_store.specs.Stored.{FailedBy};
 ghost use Rattle.history.specs.Versions.{back_of, lag_after};
 ghost use Rattle.store_client.specs.Calls.{Got, Created, Wrote, Ticked, WillBeJustified, TickWillBeJustified, StaysLawful};
 
@@ -29,6 +30,9 @@ pub trait Client<T: Content> {
     /// How many Faults it knows of.
     ghost faults: { Self → ℕ };
 
+    /// How many of its last calls in a row it knows to have failed.
+    ghost row: { Self → ℕ };
+
     /// A Fault came between these two.
     ghost rose: { Self → Self → Type 0 };
 
@@ -49,7 +53,7 @@ pub trait Client<T: Content> {
         ensures law { law self.new ≡ law self.old }
         ensures place { place self.new ≡ place self.old }
         ensures faults { faults self.old ≤ faults self.new }
-        ensures still { result ≢ Err Fault → faults self.new ≡ faults self.old }
+        ensures still { result ≢ Err Fault → FailedBy faults row 0 self.old self.new }
         ensures rose { result ≡ Err Fault → rose self.old self.new }
         ensures cause { result ≡ Err Fault → Rose (faults self.old) (faults self.new) };
 
@@ -69,7 +73,7 @@ pub trait Client<T: Content> {
         ensures law { law self.new ≡ law self.old }
         ensures place { place self.new ≡ place self.old }
         ensures faults { faults self.old ≤ faults self.new }
-        ensures still { result ≢ Err Fault → faults self.new ≡ faults self.old }
+        ensures still { result ≢ Err Fault → FailedBy faults row 0 self.old self.new }
         ensures rose { result ≡ Err Fault → rose self.old self.new }
         ensures cause { result ≡ Err Fault → Rose (faults self.old) (faults self.new) };
 
@@ -95,7 +99,7 @@ pub trait Client<T: Content> {
         ensures law { law self.new ≡ law self.old }
         ensures place { place self.new ≡ place self.old }
         ensures faults { faults self.old ≤ faults self.new }
-        ensures still { result ≢ Err Fault → faults self.new ≡ faults self.old }
+        ensures still { result ≢ Err Fault → FailedBy faults row 0 self.old self.new }
         ensures rose { result ≡ Err Fault → rose self.old self.new }
         ensures cause { result ≡ Err Fault → Rose (faults self.old) (faults self.new) };
 
@@ -111,7 +115,7 @@ pub trait Client<T: Content> {
         ensures law { law self.new ≡ law self.old }
         ensures place { place self.new ≡ place self.old }
         ensures faults { faults self.old ≤ faults self.new }
-        ensures still { result ≢ Err Fault → faults self.new ≡ faults self.old }
+        ensures still { result ≢ Err Fault → FailedBy faults row 0 self.old self.new }
         ensures rose { result ≡ Err Fault → rose self.old self.new }
         ensures cause { result ≡ Err Fault → Rose (faults self.old) (faults self.new) };
 }

@@ -1,7 +1,8 @@
 //! The client of a store on the caller's own thread.
 
-ghost use Rattle.std.specs.Prelude.{◌≡◌, ◌<◌, ℕ};
+ghost use Rattle.std.specs.Prelude.{◌≡◌, ℕ};
 ghost use Rattle.history.specs.Versions.{back_of, lag_after};
+ghost use Rattle.object_store.specs.Stored.{FailedBy};
 
 use crate::Client;
 use io_edge::Outage;
@@ -74,7 +75,9 @@ impl<'a, T: Content, O: Outage> Client<T> for MemClient<'a, T, O> {
 
     ghost faults = { λ c. O.faults c.store.now.outage };
 
-    ghost rose = { λ old new. O.faults old.store.now.outage < O.faults new.store.now.outage };
+    ghost row = { λ c. c.store.now.row };
+
+    ghost rose = { FailedBy (λ c. O.faults c.store.now.outage) (λ c. c.store.now.row) 1 };
 
     ghost Place = { ℕ };
 

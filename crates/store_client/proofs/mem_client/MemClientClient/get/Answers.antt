@@ -1,6 +1,6 @@
 use Rattle.std.proofs.Common.{◌≡◌, ◌≤◌, subst}
-use Rattle.object_store.specs.Answers.{is_fault}
-use Rattle.store_client.proofs.Lawful.{never_falls, stands_by}
+use Rattle.object_store.specs.Stored.{FailedBy}
+use Rattle.store_client.proofs.Faults.{no_fault, one_fault, never_falls}
 use Rattle.store_client.proofs.mem_client.MemClientClient.get.Goals as goal
 use Rattle.store_client.proofs.mem_client.MemClientClient.get.Goals.{then-lag-eq0, else-lag-eq0}
 
@@ -10,11 +10,9 @@ returns-clause-faults g c =
     let store = c.take_lag-lag.ensures.store in
     elim c.if-lag-eq0.branch [
       | then-lag-eq0 w ↦
-          let told = w.get-answer.ensures.outage in
-          rw w.self-is (subst (λ s. faults s.outage ≤ faults w.get-answer.new.self.outage) store (never_falls (is_fault w.get-answer.result) _ _ told.rose told.stood))
+          rw w.self-is (subst (λ s. faults s.outage ≤ faults w.get-answer.new.self.outage) store (never_falls faults g.O.Outage.most g.O.Outage.asked _ w.get-answer.new.self w.get-answer.result w.get-answer.ensures.outage w.get-answer.ensures.row))
       | else-lag-eq0 w ↦
-          let told = w.get_back-answer.ensures.outage in
-          rw w.self-is (subst (λ s. faults s.outage ≤ faults w.get_back-answer.new.self.outage) store (never_falls (is_fault w.get_back-answer.result) _ _ told.rose told.stood))
+          rw w.self-is (subst (λ s. faults s.outage ≤ faults w.get_back-answer.new.self.outage) store (never_falls faults g.O.Outage.most g.O.Outage.asked _ w.get_back-answer.new.self w.get_back-answer.result w.get_back-answer.ensures.outage w.get_back-answer.ensures.row))
     ]
 
 pub returns-clause-still : goal.returns-clause-still
@@ -23,9 +21,26 @@ returns-clause-still g c =
     let store = c.take_lag-lag.ensures.store in
     elim c.if-lag-eq0.branch [
       | then-lag-eq0 w ↦
-          let told = w.get-answer.ensures.outage in
-          rw (w.self-is, w.answer-is) (λ n. subst (λ s. faults w.get-answer.new.self.outage ≡ faults s.outage) store (stands_by w.get-answer.result _ _ told.stood n))
+          rw (w.self-is, w.answer-is) (λ n.
+          let f = subst (λ s. FailedBy (λ x. faults x.outage) (λ x. x.row) 0 s w.get-answer.new.self) store (no_fault faults g.O.Outage.most g.O.Outage.asked _ w.get-answer.new.self w.get-answer.result w.get-answer.ensures.outage w.get-answer.ensures.row n) in
+          record { risen = f.risen; in_row = f.in_row })
       | else-lag-eq0 w ↦
-          let told = w.get_back-answer.ensures.outage in
-          rw (w.self-is, w.answer-is) (λ n. subst (λ s. faults w.get_back-answer.new.self.outage ≡ faults s.outage) store (stands_by w.get_back-answer.result _ _ told.stood n))
+          rw (w.self-is, w.answer-is) (λ n.
+          let f = subst (λ s. FailedBy (λ x. faults x.outage) (λ x. x.row) 0 s w.get_back-answer.new.self) store (no_fault faults g.O.Outage.most g.O.Outage.asked _ w.get_back-answer.new.self w.get_back-answer.result w.get_back-answer.ensures.outage w.get_back-answer.ensures.row n) in
+          record { risen = f.risen; in_row = f.in_row })
+    ]
+
+pub returns-clause-rose : goal.returns-clause-rose
+returns-clause-rose g c =
+    let faults = g.O.Outage.faults in
+    let store = c.take_lag-lag.ensures.store in
+    elim c.if-lag-eq0.branch [
+      | then-lag-eq0 w ↦
+          rw (w.self-is, w.answer-is) (λ e.
+          let f = subst (λ s. FailedBy (λ x. faults x.outage) (λ x. x.row) 1 s w.get-answer.new.self) store (one_fault faults g.O.Outage.most g.O.Outage.asked _ w.get-answer.new.self w.get-answer.result w.get-answer.ensures.outage w.get-answer.ensures.row e) in
+          record { risen = f.risen; in_row = f.in_row })
+      | else-lag-eq0 w ↦
+          rw (w.self-is, w.answer-is) (λ e.
+          let f = subst (λ s. FailedBy (λ x. faults x.outage) (λ x. x.row) 1 s w.get_back-answer.new.self) store (one_fault faults g.O.Outage.most g.O.Outage.asked _ w.get_back-answer.new.self w.get_back-answer.result w.get_back-answer.ensures.outage w.get_back-answer.ensures.row e) in
+          record { risen = f.risen; in_row = f.in_row })
     ]
