@@ -1,4 +1,5 @@
 pub mod AtRest
+pub mod Counting
 pub mod Doing
 pub mod Dues
 pub mod Ends
@@ -11,3 +12,4 @@ pub mod Rosters
 pub mod Running
 pub mod Submitting
 pub mod Through
+pub mod Turning

@@ -1,9 +1,9 @@
 -- How many calls of a store fail in a run.
-use Rattle.std.specs.Prelude.{ℕ}
+use Rattle.std.specs.Prelude.{◌≡◌, ℕ, Bool, nat_lt, List}
 use Rattle.object_store.specs.Stored.{Stored, FailedBy}
 use Rattle.run_laws.specs.Whole.{Told, Ran}
-use Rattle.run_laws.specs.Rounds.{failures_by}
-use Rattle.law.specs.Documents.{Document}
+use Rattle.run_laws.specs.Rounds.{failures_by, JobsDone}
+use Rattle.law.specs.Documents.{Text, Document}
 use Rattle.law.specs.Contents.{Content, Story}
 use Rattle.next_step.specs.Hands.{Given}
 
@@ -27,3 +27,12 @@ SomeFailed before after = (n : ℕ) × Failed n before after
 pub record RanCounted (D : Document) (h : Story) (before : Count) (job : Given) (told : Told) (g : Story) (after : Count) : Type 0 where
   pub ran : Ran D h job told g
   pub counted : Failed (failures_by told) before after
+
+-- Some jobs of a round ran, from its start on: which workflows were full, whether a call failed, and how many did.
+pub record RoundDone
+    (D : Document) (start : Story) (first : Count) (jobs : List Given) (g : Story) (now : Count) (full : List Text)
+    (failed : Bool) : Type 0 where
+  pub failures : ℕ
+  pub done : JobsDone D start jobs g full failures
+  pub has_failed : failed ≡ nat_lt 0 failures
+  pub counted : Failed failures first now

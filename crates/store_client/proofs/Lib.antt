@@ -1,4 +1,4 @@
 pub mod Crossing
-mod Faults
+pub mod Faults
 mod Kept
 mod Lawful

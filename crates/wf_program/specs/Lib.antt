@@ -9,5 +9,8 @@ pub use Rattle.command_words.specs.Orders
 pub use Rattle.plain_laws.specs.PlainTrees
 pub use Rattle.wf_bundle.specs.Documents
 pub use Rattle.run_texts.specs.RunTexts
+pub use Rattle.law.specs.Once
+pub use Rattle.law.specs.States
+pub use Rattle.sim_schedule.specs.Counting
 pub use Rattle.sim_schedule.specs.Sweeping
 pub use Rattle.sim_schedule.specs.Simulating

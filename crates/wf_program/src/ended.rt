@@ -6,7 +6,7 @@ use io_edge::Outage;
 use object_store::Store;
 use wf_object::WfContent;
 
-/// The store of a run, or where no store was made the outage that was handed in. For want of memory both may be gone.
+/// The store of a run, or where no store was made the outage that was handed in.
 #[derive(Drop)]
 pub struct Ended<O: Outage> {
     pub store: Option<Store<WfContent, O>>,

@@ -1,6 +1,6 @@
 //! The run of a document over a new store.
 
-ghost use Rattle.std.specs.Prelude.{◌≡◌, ℕ, [], IfOk};
+ghost use Rattle.std.specs.Prelude.{◌≡◌, ℕ, [], IfOk, Some, None};
 ghost use Rattle.command_words.specs.declared.order.Mode.{Mode as ModeSaid};
 ghost use Rattle.run_laws.specs.Submissions.{begun};
 ghost use Rattle.wf_object.specs.Documents.{law_of};
@@ -13,8 +13,9 @@ use crate::texts::Made;
 use base_types::{Memory, TryCopy};
 use command_words::Mode;
 use io_edge::Outage;
+use lawful::laws::{meets_once, state_is_as_said};
 use next_laws::laws::plays_lawfully;
-use object_store::Store;
+use object_store::{Starts, Store};
 use plain_laws::laws::plain_runs_as_planned;
 use run_laws::laws::submissions_go_well;
 use run_texts::{Shown, run_text, too_large_text};
@@ -52,17 +53,11 @@ fn end_of_run<O: Outage>(
     }
 }
 
-// A store of the document, with no entries.
-fn new_store<O: Outage>(
-    alloc: Global,
-    outage: O,
-    document: &Document,
-) -> Result<Store<WfContent, O>, Memory>
-    ensures history { IfOk result (λ store. store.history ≡ begun (law_of document.now) []) }
-    ensures outage { IfOk result (λ store. store.outage ≡ outage) }
+// What the store of a document begins with.
+fn new_starts(alloc: Global, document: &Document) -> Result<Starts<WfContent>, Memory>
+    ensures { IfOk result (λ start. start ≡ (begun (law_of document.now) []).start) }
 {
-    let start = starts(alloc, document.limits.copy()?)?;
-    Ok(Store::new(outage, start))
+    Ok(starts(alloc, document.limits.copy()?)?)
 }
 
 // Runs a document in a mode over a new store.
@@ -74,18 +69,21 @@ fn run_over<O: Outage>(
 ) -> Result<(), RunEnd>
     requires sound { IsSound document.now }
     requires new { store.old.history ≡ begun (law_of document.now) [] }
+    requires unfailed { store.old.row ≡ 0 }
     ensures { EndedSo mode (O.faults store.old.outage) document.now (kept_of O.faults store.new) result }
 {
     submissions_go_well();
     plain_runs_as_planned();
     plays_lawfully();
+    meets_once();
+    state_is_as_said();
     match mode {
         Mode::Simulate => simulate(alloc, store, document),
         Mode::Run | Mode::Check | Mode::Generate => sweep(alloc, store, document),
     }
 }
 
-/// Runs a document in a mode over a new store, which is left in `ended`.
+/// Runs a document in a mode over a new store, which is left in `ended`; or the outage, where there is no memory for a store.
 pub(crate) fn run<O: Outage>(
     alloc: Global,
     mode: Mode,
@@ -95,13 +93,22 @@ pub(crate) fn run<O: Outage>(
     ended: &mut Ended<O>,
 ) -> Result<Made, Status>
     requires { IsSound document.now }
-    ensures { RunLeaves mode (O.faults outage) document.now shown
+    ensures left { RunLeaves mode (O.faults outage) document.now shown
         (kept_in O.faults ended.new.store) (status_in result) (text_in result) }
+    ensures outage { ended.new.store ≡ None → ended.new.outage ≡ Some outage }
 {
     ended.store = None;
-    let mut store = new_store(alloc, outage, document)?;
-    let end = run_over(alloc, mode, document, &mut store);
-    let made = end_of_run(alloc, document, &store, shown, end);
-    ended.store = Some(store);
-    made
+    match new_starts(alloc, document) {
+        Ok(start) => {
+            let mut store = Store::new(outage, start);
+            let end = run_over(alloc, mode, document, &mut store);
+            let made = end_of_run(alloc, document, &store, shown, end);
+            ended.store = Some(store);
+            made
+        }
+        Err(Memory) => {
+            ended.outage = Some(outage);
+            Err(Status::Memory)
+        }
+    }
 }

@@ -1,8 +1,7 @@
 //! The top call.
 
-ghost use Rattle.std.specs.Prelude.{◌≡◌, ◌≢◌, Some, None};
-ghost use Rattle.wf_program.specs.declared.status.Status.TheVariants as status;
-ghost use Rattle.wf_program.specs.Runs.{Ends, Did};
+ghost use Rattle.std.specs.Prelude.{◌≡◌, Some, None};
+ghost use Rattle.wf_program.specs.Runs.{edge, run_of, Ends, Did, NothingFailed, NamesNoFault};
 ghost use Rattle.wf_program.specs.Inside.Ends.{Wrote, kept_in, status_in, text_in};
 
 use crate::asked::{Asked, what_is_asked};
@@ -22,14 +21,8 @@ fn end_of<S: Source, O: Outage>(
     outage: O,
     ended: &mut Ended<O>,
 ) -> Result<Made, Status>
-    ensures ends { Ends words.now (record {
-      bytes_before = S.left source.old;
-      bytes_after = S.left source.new;
-      faults_before = S.faults source.old;
-      faults_after = S.faults source.new;
-    }) (O.faults outage) (kept_in O.faults ended.new.store) (status_in result) (text_in result) }
-    ensures outage { status_in result ≢ status.Memory → ended.new.store ≡ None →
-        ended.new.outage ≡ Some outage }
+    ensures ends { Ends words.now (edge (S.left source.old) (S.left source.new) (S.faults source.old) (S.faults source.new)) (O.faults outage) (kept_in O.faults ended.new.store) (status_in result) (text_in result) }
+    ensures outage { ended.new.store ≡ None → ended.new.outage ≡ Some outage }
 {
     *ended = Ended::new();
     match what_is_asked(alloc, words, source) {
@@ -47,16 +40,32 @@ fn end_of<S: Source, O: Outage>(
 
 // Writes the text of an end.
 fn write_end<K: Sink>(sink: &mut K, text: &[u8], status: Status) -> Status
-    ensures { Wrote (record {
-      bytes_before = K.holds sink.old;
-      bytes_after = K.holds sink.new;
-      faults_before = K.faults sink.old;
-      faults_after = K.faults sink.new;
-    }) status text.now result }
+    ensures { Wrote (edge (K.holds sink.old) (K.holds sink.new) (K.faults sink.old) (K.faults sink.new)) status text.now result }
 {
     match write_all(sink, text) {
         Ok(()) => status,
         Err(_) => Status::WriteFault,
+    }
+}
+
+// Does what the words ask for, and writes its text.
+fn run_words<S: Source, K: Sink, O: Outage>(
+    alloc: Global,
+    words: &[Text],
+    source: &mut S,
+    sink: &mut K,
+    outage: O,
+    ended: &mut Ended<O>,
+) -> Status
+    ensures did { Did (run_of words.now
+        (edge (S.left source.old) (S.left source.new) (S.faults source.old) (S.faults source.new))
+        (edge (K.holds sink.old) (K.holds sink.new) (K.faults sink.old) (K.faults sink.new))
+        (O.faults outage) (kept_in O.faults ended.new.store)) result }
+    ensures outage { ended.new.store ≡ None → ended.new.outage ≡ Some outage }
+{
+    match end_of(alloc, words, source, outage, ended) {
+        Ok(made) => write_end(sink, made.text.as_slice(), made.status),
+        Err(status) => write_end(sink, status.fixed_text(), status),
     }
 }
 
@@ -66,7 +75,8 @@ fn write_end<K: Sink>(sink: &mut K, text: &[u8], status: Status) -> Status
 /// document first; `generate` writes the document of a number, or the summary of its run.
 ///
 /// The status says how the run ended; the text of each status but WriteFault is in the sink, and the store of a run is left
-/// in `ended`, or the outage where no store was made. Over standard input and output, which tell no bytes, the clause speaks
+/// in `ended`, or the outage where no store was made. Where no read, no write and no call of the store failed, the status is
+/// none of ReadFault, WriteFault and StoreFault. Over standard input and output, which tell no bytes, the clause speaks
 /// of words, faults and the store alone.
 pub fn argo<S: Source, K: Sink, O: Outage>(
     alloc: Global,
@@ -76,28 +86,15 @@ pub fn argo<S: Source, K: Sink, O: Outage>(
     outage: O,
     ended: &mut Ended<O>,
 ) -> Status
-    ensures did { Did (record {
-      words = words.now;
-      source = record {
-        bytes_before = S.left source.old;
-        bytes_after = S.left source.new;
-        faults_before = S.faults source.old;
-        faults_after = S.faults source.new;
-      };
-      sink = record {
-        bytes_before = K.holds sink.old;
-        bytes_after = K.holds sink.new;
-        faults_before = K.faults sink.old;
-        faults_after = K.faults sink.new;
-      };
-      faults_before = O.faults outage;
-      store = kept_in O.faults ended.new.store;
-    }) result }
-    ensures outage { result ≢ status.Memory → result ≢ status.WriteFault → ended.new.store ≡ None →
-        ended.new.outage ≡ Some outage }
+    ensures did { Did (run_of words.now
+        (edge (S.left source.old) (S.left source.new) (S.faults source.old) (S.faults source.new))
+        (edge (K.holds sink.old) (K.holds sink.new) (K.faults sink.old) (K.faults sink.new))
+        (O.faults outage) (kept_in O.faults ended.new.store)) result }
+    ensures outage { ended.new.store ≡ None → ended.new.outage ≡ Some outage }
+    ensures complete { NothingFailed (run_of words.now
+        (edge (S.left source.old) (S.left source.new) (S.faults source.old) (S.faults source.new))
+        (edge (K.holds sink.old) (K.holds sink.new) (K.faults sink.old) (K.faults sink.new))
+        (O.faults outage) (kept_in O.faults ended.new.store)) → NamesNoFault result }
 {
-    match end_of(alloc, words, source, outage, ended) {
-        Ok(made) => write_end(sink, made.text.as_slice(), made.status),
-        Err(status) => write_end(sink, status.fixed_text(), status),
-    }
+    run_words(alloc, words, source, sink, outage, ended)
 }
