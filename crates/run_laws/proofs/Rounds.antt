@@ -1,5 +1,5 @@
 -- Why jobs that run one after the other are the jobs of a round.
-use Rattle.std.proofs.Common.{◌≡◌, ℕ, ◌+◌, List, [], ◌∷◌, ◌++◌, append_assoc, append-nil, refl, sym, ◌∙◌, ap, ap₂, arith}
+use Rattle.std.proofs.Common.{◌≡◌, ℕ, ◌+◌, List, [], ◌∷◌, ◌++◌, append_assoc, append-nil, refl, sym, ◌∙◌, ap, ap₂, subst, arith}
 use Rattle.law.specs.Documents.{Text, Document}
 use Rattle.law.specs.Contents.{Story}
 use Rattle.next_step.specs.Views.{Views}
@@ -85,7 +85,9 @@ then_one D h i g jobs job calls faults more fail (one_more {i = k} {job = first}
 
 -- the same with so many failures, by an equation
 counted_so : (D : Document) (h g : Story) (jobs : List Given) (full : List Text) (m n calls : ℕ) → (e : m ≡ n) → (ran : JobsRan D h jobs calls m g) → full ≡ full_in ran → JobsDone D h jobs g full n
-counted_so D h g jobs full m n calls refl ran is = record { calls = calls; ran = ran; is_full = is }
+counted_so D h g jobs full m n calls e ran is =
+    let both : (r : JobsRan D h jobs calls n g) × (full ≡ full_in r) = subst (λ (k : ℕ). (r : JobsRan D h jobs calls k g) × (full ≡ full_in r)) e (ran, is) in
+    record { calls = calls; ran = both.0; is_full = both.1 }
 
 one_done : (D : Document) (h i g : Story) (jobs : List Given) (job : Given) (told : Told) (full : List Text) (failures : ℕ) → JobsDone D h jobs i full failures → Ran D i job told g → JobsDone D h (jobs ++ job ∷ []) g (full ++ full_by job told) (failures + failures_by told)
 one_done D h i g jobs job told full failures a b =

@@ -17,9 +17,9 @@ is_not_fault (Err refused.Memory) n = refl
 
 -- where the row is the most it stays so
 stays_or_ends : (lost fault : Bool) (row : ℕ) → (lost ≡ true → row ≡ most_faults) → fault ≡ false → cond lost most_faults (cond fault (row + 1) 0) ≤ row + 0
-stays_or_ends true fault row is no = let e = is refl in omega (arith, e)
-stays_or_ends false false row is no = omega arith
-stays_or_ends false true row is no = absurd cc
+stays_or_ends true fault row is unfailed = let e = is refl in omega (arith, e)
+stays_or_ends false false row is unfailed = omega arith
+stays_or_ends false true row is unfailed = absurd cc
 
 one_more : (lost fault : Bool) (row : ℕ) → (lost ≡ true → row ≡ most_faults) → cond lost most_faults (cond fault (row + 1) 0) ≤ row + 1
 one_more true fault row is = let e = is refl in omega (arith, e)
@@ -32,11 +32,11 @@ is_most row e = grind arith
 module _ {C O T : Type 0} (faults most : O → ℕ) (asked : O → Bool → O → Type 0) (old new : Stored C O) (r : Result T StoreRefused) (told : Asked faults most asked old.outage new.outage r) (row : new.row ≡ row_after old.row r) where
   pub no_fault : r ≢ Err refused.Fault → FailedBy (λ (s : Stored C O). faults s.outage) (λ (s : Stored C O). s.row) 0 old new
   no_fault n =
-      let no = is_not_fault r n in
-      let same = told.stood no in
+      let unfailed = is_not_fault r n in
+      let same = told.stood unfailed in
       record {
         risen = omega (arith, same);
-        in_row = subst (λ (x : ℕ). x ≤ old.row + 0) (sym row) (stays_or_ends (old.row == most_faults) (is_fault r) old.row (is_most old.row) no);
+        in_row = subst (λ (x : ℕ). x ≤ old.row + 0) (sym row) (stays_or_ends (old.row == most_faults) (is_fault r) old.row (is_most old.row) unfailed);
       }
 
   pub one_fault : r ≡ Err refused.Fault → FailedBy (λ (s : Stored C O). faults s.outage) (λ (s : Stored C O). s.row) 1 old new
