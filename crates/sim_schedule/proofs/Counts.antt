@@ -39,9 +39,9 @@ pub not_lost : (a b : Count) → OneAtMost a b → b.row ≢ most_faults → a.r
 not_lost a b f other below = omega (arith, f.few, f.counted.in_row, other, below)
 
 still_row : (lost fault : Bool) (row : ℕ) → (lost ≡ true → row ≡ most_faults) → fault ≡ false → cond lost most_faults (cond fault (row + 1) 0) ≤ row + 0
-still_row true fault row is no = let e = is refl in omega (arith, e)
-still_row false false row is no = omega arith
-still_row false true row is no = absurd cc
+still_row true fault row is off = let e = is refl in omega (arith, e)
+still_row false false row is off = omega arith
+still_row false true row is off = absurd cc
 
 one_row : (lost fault : Bool) (row : ℕ) → (lost ≡ true → row ≡ most_faults) → cond lost most_faults (cond fault (row + 1) 0) ≤ row + 1
 one_row true fault row is = let e = is refl in omega (arith, e)
@@ -57,11 +57,11 @@ module _ {O T : Type 0} (faults most : O → ℕ) (asked : O → Bool → O → 
   Calls n = Failed n (count_of faults old) (count_of faults new)
 
   pub call_still : is_fault r ≡ false → Calls 0
-  call_still no =
-      let same = told.stood no in
+  call_still off =
+      let same = told.stood off in
       record {
         risen = omega (arith, same);
-        in_row = subst (λ (x : ℕ). x ≤ old.row + 0) (sym row) (still_row (old.row == most_faults) (is_fault r) old.row (is_most old.row) no);
+        in_row = subst (λ (x : ℕ). x ≤ old.row + 0) (sym row) (still_row (old.row == most_faults) (is_fault r) old.row (is_most old.row) off);
       }
 
   pub call_rose : is_fault r ≡ true → Calls 1

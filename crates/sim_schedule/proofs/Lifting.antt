@@ -133,10 +133,10 @@ module _ (x : Given) (rest : List Given) where
       counted : (notes : List CallNote) (g : Story) (b : Hand) (s : Stepped D h i one notes g b) (r : Result StepDone ReconcileFault) → Tells s r → (r ≢ Err faults.Fault → Failed 0 before now) → (r ≡ Err faults.Fault → Failed 1 before now) → Failed (failures notes) before now
       counted notes g b (has_none e) r told still rose = absurd (not_none x [] e)
       counted notes g b (gets w others k reply e next got) r told still rose =
-          counted_by reply before now (λ no. still (λ is. no (call_failed (after v (get k) reply) reply (sym told ∙ is))))
+          counted_by reply before now (λ other. still (λ is. other (call_failed (after v (get k) reply) reply (sym told ∙ is))))
           (λ is. rose (told ∙ ap (λ y. of_call (after v (get k) y) y) is))
       counted notes g b (changes w others m s facts reply k e next viewed adds did) r told still rose =
-          counted_by reply before now (λ no. still (λ is. no (call_failed (after v (act m) reply) reply (sym told ∙ is))))
+          counted_by reply before now (λ other. still (λ is. other (call_failed (after v (act m) reply) reply (sym told ∙ is))))
           (λ is. rose (told ∙ ap (λ y. of_call (after v (act m) y) y) is))
       counted notes g b (is_full w others f s e next viewed large) r told still rose = still (λ is. let t = sym told ∙ is in cc)
       counted notes g b (is_done w others e next) r told still rose = still (λ is. let t = sym told ∙ is in cc)

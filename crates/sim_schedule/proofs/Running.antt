@@ -151,9 +151,9 @@ module _ (x : Given) (rest : List Given) where
       counted : (notes : List CallNote) (g : Story) (b : Hand) (s : Stepped D h i one notes g b) (r : Result RunDone RunFault) → Tells s r → (r ≢ Err faults.Fault → Failed 0 before now) → (r ≡ Err faults.Fault → Failed 1 before now) → Failed (failures notes) before now
       counted notes g b (has_none e) r told still rose = absurd (not_none x [] e)
       counted notes g b (gets_pod w name others reply e none_read got) r told still rose =
-          counted_by reply before now (λ no. still (λ is. no (read_failed reply (sym told ∙ is)))) (λ is. rose (told ∙ ap of_read is))
+          counted_by reply before now (λ other. still (λ is. other (read_failed reply (sym told ∙ is)))) (λ is. rose (told ∙ ap of_read is))
       counted notes g b (finishes w name others y o reply k e q next did) r told still rose =
-          counted_by reply before now (λ no. still (λ is. no (write_failed reply (sym told ∙ is)))) (λ is. rose (told ∙ ap of_write is))
+          counted_by reply before now (λ other. still (λ is. other (write_failed reply (sym told ∙ is)))) (λ is. rose (told ∙ ap of_write is))
       counted notes g b (ends w name others y e q next) r told still rose =
           still (λ is. end_not_failed (runner_next D w name (Some y)) (sym told ∙ is))
       counted notes g b (gets w others k reply e next got) r told still rose = absurd told

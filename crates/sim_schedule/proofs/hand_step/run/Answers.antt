@@ -26,27 +26,27 @@ returns-else-branch-clause-on g c =
 
 pub returns-in_err-runs_on-clause-few : goal.returns-in_err-runs_on-clause-few
 returns-in_err-runs_on-clause-few g c =
-    let few : OneAtMost (count_of g.O.Outage.faults c.args.store.now) (count_of g.O.Outage.faults c.step-answer.new.client.store.now) = runner_few g.O.Outage.faults c.args.store.now c.set_lag.new.self.store.now c.step-answer.new.client.store.now (c.set_lag.ensures.store ∙ c.new-client.ensures.store) c.step-answer.result (λ no. let f = c.step-answer.ensures.still no in record { risen = f.risen; in_row = f.in_row }) (λ is. let f = (c.step-answer.ensures.fault is).0 in record { risen = f.risen; in_row = f.in_row }) in
+    let few : OneAtMost (count_of g.O.Outage.faults c.args.store.now) (count_of g.O.Outage.faults c.step-answer.new.client.store.now) = runner_few g.O.Outage.faults c.args.store.now c.set_lag.new.self.store.now c.step-answer.new.client.store.now (c.set_lag.ensures.store ∙ c.new-client.ensures.store) c.step-answer.result (λ other. let f = c.step-answer.ensures.still other in record { risen = f.risen; in_row = f.in_row }) (λ is. let f = (c.step-answer.ensures.fault is).0 in record { risen = f.risen; in_row = f.in_row }) in
     search (rules, few)
 
 pub returns-then-branch-clause-few : goal.returns-then-branch-clause-few
 returns-then-branch-clause-few g c =
-    let few : OneAtMost (count_of g.O.Outage.faults c.args.store.now) (count_of g.O.Outage.faults c.step-answer.new.client.store.now) = runner_few g.O.Outage.faults c.args.store.now c.set_lag.new.self.store.now c.step-answer.new.client.store.now (c.set_lag.ensures.store ∙ c.new-client.ensures.store) c.step-answer.result (λ no. let f = c.step-answer.ensures.still no in record { risen = f.risen; in_row = f.in_row }) (λ is. let f = (c.step-answer.ensures.fault is).0 in record { risen = f.risen; in_row = f.in_row }) in
+    let few : OneAtMost (count_of g.O.Outage.faults c.args.store.now) (count_of g.O.Outage.faults c.step-answer.new.client.store.now) = runner_few g.O.Outage.faults c.args.store.now c.set_lag.new.self.store.now c.step-answer.new.client.store.now (c.set_lag.ensures.store ∙ c.new-client.ensures.store) c.step-answer.result (λ other. let f = c.step-answer.ensures.still other in record { risen = f.risen; in_row = f.in_row }) (λ is. let f = (c.step-answer.ensures.fault is).0 in record { risen = f.risen; in_row = f.in_row }) in
     search (rules, few)
 
 pub returns-else-branch-clause-few : goal.returns-else-branch-clause-few
 returns-else-branch-clause-few g c =
-    let few : OneAtMost (count_of g.O.Outage.faults c.args.store.now) (count_of g.O.Outage.faults c.step-answer.new.client.store.now) = runner_few g.O.Outage.faults c.args.store.now c.set_lag.new.self.store.now c.step-answer.new.client.store.now (c.set_lag.ensures.store ∙ c.new-client.ensures.store) c.step-answer.result (λ no. let f = c.step-answer.ensures.still no in record { risen = f.risen; in_row = f.in_row }) (λ is. let f = (c.step-answer.ensures.fault is).0 in record { risen = f.risen; in_row = f.in_row }) in
+    let few : OneAtMost (count_of g.O.Outage.faults c.args.store.now) (count_of g.O.Outage.faults c.step-answer.new.client.store.now) = runner_few g.O.Outage.faults c.args.store.now c.set_lag.new.self.store.now c.step-answer.new.client.store.now (c.set_lag.ensures.store ∙ c.new-client.ensures.store) c.step-answer.result (λ other. let f = c.step-answer.ensures.still other in record { risen = f.risen; in_row = f.in_row }) (λ is. let f = (c.step-answer.ensures.fault is).0 in record { risen = f.risen; in_row = f.in_row }) in
     search (rules, few)
 
 pub returns-then-branch-clause-made : goal.returns-then-branch-clause-made
 returns-then-branch-clause-made g c = λ rest i.
-    let moved = runner_left g.O.Outage.faults c.args.store.now c.set_lag.new.self.store.now c.step-answer.new.client.store.now (c.set_lag.ensures.store ∙ c.new-client.ensures.store) (law_of c.args.document.now) c.args.lag c.set_lag.new.self.lag c.set_lag.ensures.lag c.step-answer.new.client.lag c.lag-lag.result c.lag-lag.ensures c.args.runner c.step-answer.new.self c.step-answer.result c.requires.one (c.step-answer.ensures.made c.in_ok-runs_on.ensures.memory) (λ no. let f = c.step-answer.ensures.still no in record { risen = f.risen; in_row = f.in_row }) (λ is. let f = (c.step-answer.ensures.fault is).0 in record { risen = f.risen; in_row = f.in_row }) true (sym c.in_ok-runs_on.ensures.told ∙ c.if-branch.true) rest i in
+    let moved = runner_left g.O.Outage.faults c.args.store.now c.set_lag.new.self.store.now c.step-answer.new.client.store.now (c.set_lag.ensures.store ∙ c.new-client.ensures.store) (law_of c.args.document.now) c.args.lag c.set_lag.new.self.lag c.set_lag.ensures.lag c.step-answer.new.client.lag c.lag-lag.result c.lag-lag.ensures c.args.runner c.step-answer.new.self c.step-answer.result c.requires.one (c.step-answer.ensures.made c.in_ok-runs_on.ensures.memory) (λ other. let f = c.step-answer.ensures.still other in record { risen = f.risen; in_row = f.in_row }) (λ is. let f = (c.step-answer.ensures.fault is).0 in record { risen = f.risen; in_row = f.in_row }) true (sym c.in_ok-runs_on.ensures.told ∙ c.if-branch.true) rest i in
     search (rules, moved)
 
 pub returns-else-branch-clause-made : goal.returns-else-branch-clause-made
 returns-else-branch-clause-made g c = λ rest i.
-    let moved = runner_left g.O.Outage.faults c.args.store.now c.set_lag.new.self.store.now c.step-answer.new.client.store.now (c.set_lag.ensures.store ∙ c.new-client.ensures.store) (law_of c.args.document.now) c.args.lag c.set_lag.new.self.lag c.set_lag.ensures.lag c.step-answer.new.client.lag c.lag-lag.result c.lag-lag.ensures c.args.runner c.step-answer.new.self c.step-answer.result c.requires.one (c.step-answer.ensures.made c.in_ok-runs_on.ensures.memory) (λ no. let f = c.step-answer.ensures.still no in record { risen = f.risen; in_row = f.in_row }) (λ is. let f = (c.step-answer.ensures.fault is).0 in record { risen = f.risen; in_row = f.in_row }) false (sym c.in_ok-runs_on.ensures.told ∙ c.if-branch.false) rest i in
+    let moved = runner_left g.O.Outage.faults c.args.store.now c.set_lag.new.self.store.now c.step-answer.new.client.store.now (c.set_lag.ensures.store ∙ c.new-client.ensures.store) (law_of c.args.document.now) c.args.lag c.set_lag.new.self.lag c.set_lag.ensures.lag c.step-answer.new.client.lag c.lag-lag.result c.lag-lag.ensures c.args.runner c.step-answer.new.self c.step-answer.result c.requires.one (c.step-answer.ensures.made c.in_ok-runs_on.ensures.memory) (λ other. let f = c.step-answer.ensures.still other in record { risen = f.risen; in_row = f.in_row }) (λ is. let f = (c.step-answer.ensures.fault is).0 in record { risen = f.risen; in_row = f.in_row }) false (sym c.in_ok-runs_on.ensures.told ∙ c.if-branch.false) rest i in
     search (rules, moved)
 
 pub returns-then-branch-clause-one : goal.returns-then-branch-clause-one
