@@ -23,7 +23,7 @@ use Rattle.sim_schedule.specs.Counting.{Count, Failed, SomeFailed}
 use Rattle.sim_schedule.specs.Sweeping.{has_workflow, with_submission, with_submissions, NamesNone, Swept, SweepGives}
 use Rattle.sim_schedule.specs.declared.end.RunEnd.{RunEnd}
 use Rattle.sim_schedule.specs.declared.end.RunEnd.TheVariants.{StoreFault, TooLarge, Memory as OutOfMemory}
-use Rattle.sim_schedule.proofs.Counts.{none_failed, failed_then}
+use Rattle.sim_schedule.proofs.Counting.{none_failed, failed_then}
 use Rattle.sim_schedule.proofs.Listing.{map_next}
 use Rattle.wf_bundle.specs.declared.document.Schedule.{Schedule}
 use Rattle.wf_manifest.specs.declared.manifest.Manifest.{Manifest}

@@ -23,7 +23,7 @@ use Rattle.sim_schedule.specs.Counting.{Count, Failed}
 use Rattle.sim_schedule.specs.Simulating.{failed, failures}
 use Rattle.sim_schedule.specs.Inside.Hands.{HasOne, hand_with, is_called}
 use Rattle.sim_schedule.specs.Inside.Steps.{HandMoved, HandMoves, OneAtMost}
-use Rattle.sim_schedule.proofs.Counts.{was_none, was_one}
+use Rattle.sim_schedule.proofs.OneCall.{was_none, was_one}
 
 pub first_same : {A : Type 0} (x y : A) (xs ys : List A) → x ∷ xs ≡ y ∷ ys → x ≡ y
 first_same x y xs ys e = cc

@@ -9,12 +9,12 @@ use Rattle.law.specs.Documents.{Document}
 use Rattle.law.specs.Contents.{Story}
 use Rattle.next_step.specs.Hands.{Given, Hand, idle_hand}
 use Rattle.next_step.specs.Plays.{has_none, ScheduleStep, give_job, make_step, restart, set_lag, set_clock, stage, gave, stepped, restarted, lagged, ticked, stayed, failed}
-use Rattle.object_store.specs.Answers.{is_fault, TickGives, Adds}
+use Rattle.object_store.specs.Answers.{TickGives, Adds}
 use Rattle.object_store.specs.declared.refused.StoreRefused.{StoreRefused}
 use Rattle.object_store.specs.declared.refused.StoreRefused.TheVariants as refused
 use Rattle.sim_schedule.specs.Counting.{Count, Failed}
 use Rattle.sim_schedule.specs.Inside.Steps.{HandMoves, StepPlayed}
-use Rattle.sim_schedule.proofs.Counts.{none_failed}
+use Rattle.sim_schedule.proofs.Counting.{none_failed}
 
 pub on_ok : {T E P Q : Type 0} (r : Result T E) → (P → Q) → OnOk r P → OnOk r Q
 on_ok (Ok x) f p = f p
@@ -59,11 +59,11 @@ module _ (D : Document) (h g : Story) (to : ℕ) (before now : Count) (hands : L
   abbrev Moved : Story → Type 0
   Moved k = StepPlayed D (set_clock to) (stage h hands) before (stage k hands) now
 
-  pub clock_moved : (r : Result Unit StoreRefused) → r ≢ Err refused.Memory → TickGives to (clock_of h) r → Adds h (event (Tick to) None) r g → (is_fault r ≡ false → Failed 0 before now) → (is_fault r ≡ true → Failed 1 before now) → Moved g
+  pub clock_moved : (r : Result Unit StoreRefused) → r ≢ Err refused.Memory → TickGives to (clock_of h) r → Adds h (event (Tick to) None) r g → (r ≢ Err refused.Fault → Failed 0 before now) → (r ≡ Err refused.Fault → Failed 1 before now) → Moved g
   clock_moved (Ok x) answered gives adds still rose =
-      subst Moved (sym adds) record { notes = _; plays = ticked to gives; counted = still refl }
+      subst Moved (sym adds) record { notes = _; plays = ticked to gives; counted = still (λ e. cc) }
   clock_moved (Err (refused.Behind told)) answered gives adds still rose =
-      subst Moved (sym adds) record { notes = _; plays = stayed to gives.1; counted = still refl }
+      subst Moved (sym adds) record { notes = _; plays = stayed to gives.1; counted = still (λ e. cc) }
   clock_moved (Err refused.Fault) answered gives adds still rose =
       subst Moved (sym adds) record { notes = _; plays = failed to; counted = rose refl }
   clock_moved (Err refused.Memory) answered gives adds still rose = absurd (answered refl)

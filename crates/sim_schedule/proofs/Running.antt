@@ -19,7 +19,7 @@ use Rattle.sim_schedule.specs.Counting.{Count, Failed}
 use Rattle.sim_schedule.specs.Simulating.{failures}
 use Rattle.sim_schedule.specs.Inside.Hands.{HasOnePod, hand_with, is_running}
 use Rattle.sim_schedule.specs.Inside.Steps.{HandMoved, HandMoves, OneAtMost}
-use Rattle.sim_schedule.proofs.Counts.{was_none, was_one}
+use Rattle.sim_schedule.proofs.OneCall.{was_none, was_one}
 use Rattle.sim_schedule.proofs.Lifting.{first_same, rest_same, not_none, left, counted_by}
 
 refused_so : (r : Reply) → is_running (of_refusal r) ≡ false

@@ -3,7 +3,7 @@ use Rattle.std.proofs.Common.{refl}
 use Rattle.history.specs.History.{clock_of}
 use Rattle.wf_object.specs.Documents.{law_of}
 use Rattle.sim_schedule.specs.Counting.{count_of}
-use Rattle.sim_schedule.proofs.Counts.{call_still, call_rose, call_made}
+use Rattle.sim_schedule.proofs.OneCall.{call_still, call_rose, call_made}
 use Rattle.sim_schedule.proofs.Submitting.{ticked_on}
 use Rattle.sim_schedule.proofs.Plays.{on_ok, clock_moved}
 use Rattle.sim_schedule.proofs.playing.move_clock.Goals as goal
@@ -27,5 +27,8 @@ returns-clause-played g c = λ hands.
 
 pub returns-clause-few : goal.returns-clause-few
 returns-clause-few g c =
-    call_made g.O.Outage.faults g.O.Outage.most g.O.Outage.asked c.args.store.now c.tick-answer.new.self c.tick-answer.result
-    c.tick-answer.ensures.outage c.tick-answer.ensures.row
+    let old = c.args.store.now in
+    let new = c.tick-answer.new.self in
+    call_made c.tick-answer.result (count_of g.O.Outage.faults old) (count_of g.O.Outage.faults new)
+    (call_still g.O.Outage.faults g.O.Outage.most g.O.Outage.asked old new c.tick-answer.result c.tick-answer.ensures.outage c.tick-answer.ensures.row)
+    (call_rose g.O.Outage.faults g.O.Outage.most g.O.Outage.asked old new c.tick-answer.result c.tick-answer.ensures.outage c.tick-answer.ensures.row)

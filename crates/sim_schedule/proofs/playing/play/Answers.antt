@@ -10,7 +10,7 @@ use Rattle.wf_object.specs.Documents.{law_of}
 use Rattle.sim_schedule.specs.Counting.{count_of}
 use Rattle.sim_schedule.specs.Simulating.{step_of}
 use Rattle.sim_schedule.specs.Inside.Steps.{StepPlayed}
-use Rattle.sim_schedule.proofs.Counts.{no_call}
+use Rattle.sim_schedule.proofs.OneCall.{no_call}
 use Rattle.sim_schedule.proofs.Plays.{on_ok, at_hand, given_so, restarted_so, lagged_so, stepped_so}
 use Rattle.sim_schedule.proofs.playing.play.Goals as goal
 

@@ -7,7 +7,8 @@ use Rattle.item_reader.specs.declared.schedules.ScheduleStep.{ScheduleStep}
 use Rattle.next_step.specs.Hands.{idle_hand}
 use Rattle.wf_object.specs.Documents.{law_of}
 use Rattle.sim_schedule.specs.Counting.{count_of}
-use Rattle.sim_schedule.proofs.Counts.{some_none, one_then, not_lost}
+use Rattle.sim_schedule.proofs.Counting.{none_some}
+use Rattle.sim_schedule.proofs.OneCall.{one_then, not_lost}
 use Rattle.sim_schedule.proofs.Submitting.{stays, on, among_at}
 use Rattle.sim_schedule.proofs.Following.{Sofar, sofar_none, sofar_next, sofar_some, sofar_lawful}
 use Rattle.sim_schedule.proofs.simulated.follow.Goals as goal

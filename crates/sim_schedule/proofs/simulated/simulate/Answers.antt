@@ -1,7 +1,7 @@
 -- The submissions, the schedule, and the rounds behind it.
 use Rattle.wf_object.specs.Documents.{law_of}
 use Rattle.sim_schedule.specs.Counting.{count_of}
-use Rattle.sim_schedule.proofs.Counts.{some_then}
+use Rattle.sim_schedule.proofs.Counting.{some_then}
 use Rattle.sim_schedule.proofs.Following.{simulation_gives}
 use Rattle.sim_schedule.proofs.simulated.simulate.Goals as goal
 

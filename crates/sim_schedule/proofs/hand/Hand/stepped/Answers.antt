@@ -6,7 +6,7 @@ use Rattle.sim_schedule.specs.Counting.{count_of}
 use Rattle.sim_schedule.specs.Inside.Hands.{given, hand_in, hand_after, IsBusyFirst}
 use Rattle.sim_schedule.specs.declared.hand_job.Doing.TheVariants.{Nothing, Workflow, Pod}
 use Rattle.sim_schedule.specs.Inside.Steps.{HandMoves}
-use Rattle.sim_schedule.proofs.Counts.{no_call}
+use Rattle.sim_schedule.proofs.OneCall.{no_call}
 use Rattle.sim_schedule.proofs.Plays.{if_ok, none_moved}
 use Rattle.sim_schedule.proofs.hand.Hand.stepped.Goals as goal
 
