@@ -7,6 +7,7 @@ pub mod Following
 pub mod Later
 pub mod Lifting
 pub mod Listing
+pub mod OneCall
 pub mod Plays
 pub mod Rosters
 pub mod Running

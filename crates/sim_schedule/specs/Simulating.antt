@@ -56,6 +56,7 @@ pub record Followed (D : Document) (s : Schedule) (h : Story) (before : Count) (
 
 -- The workflows that were lacking are submitted, where so many calls are refused; the schedule is followed from there on, and
 -- behind it the run goes on by rounds, as without a schedule, up to an end that is quiet but for these workflows, which are full.
+-- Before the rounds each workflow is submitted again, which adds no entry: so many of these calls fail, and the others find it there.
 pub record Simulated (D : Document) (s : Schedule) (h : Story) (before : Count) (g : Story) (after : Count) (full : List Text) : Type 0 where
   pub refused : ℕ
   pub submitted : Count
@@ -63,10 +64,11 @@ pub record Simulated (D : Document) (s : Schedule) (h : Story) (before : Count) 
   pub end : Story
   pub ended : Count
   pub followed : Followed D s (with_submissions h D.workflows) submitted end ended
+  pub again : ℕ
   pub rounds : ℕ
   pub faults : ℕ
   pub ran : RunRan D end rounds faults g
-  pub counted : Failed faults ended after
+  pub counted : Failed (again + faults) ended after
   pub later : Extends g end
   pub paced : IsPaced D (entries_in end) g
   pub over : IsOver D g full

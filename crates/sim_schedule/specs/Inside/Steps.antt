@@ -1,5 +1,5 @@
 -- The steps of a hand, and of the schedule, as the code makes them.
-use Rattle.std.specs.Prelude.{ℕ, List}
+use Rattle.std.specs.Prelude.{ℕ, ◌≤◌, List}
 use Rattle.law.specs.Documents.{Document}
 use Rattle.law.specs.Contents.{Story}
 use Rattle.next_step.specs.Hands.{Hand, CallNote}
@@ -21,3 +21,9 @@ pub record StepPlayed (D : Document) (o : ScheduleStep) (p : Stage) (before : Co
   pub notes : List CallNote
   pub plays : Plays D p o notes q
   pub counted : Failed (failures notes) before after
+
+-- at most one call failed between these two
+pub record OneAtMost (before after : Count) : Type 0 where
+  pub how_many : ℕ
+  pub few : how_many ≤ 1
+  pub counted : Failed how_many before after
