@@ -5,7 +5,7 @@ use Rattle.object_store.specs.Stored.{Stored, FailedBy, most_faults}
 use Rattle.law.specs.Documents.{Text, Document}
 use Rattle.law.specs.Contents.{Content, Story}
 use Rattle.next_step.specs.Hands.{Given}
-use Rattle.run_laws.specs.Whole.{Told}
+use Rattle.run_laws.specs.Whole.{Told, Ran}
 use Rattle.run_laws.specs.Rounds.{full_by, failures_by, JobsDone, RoundsAreDone}
 use Rattle.sim_schedule.specs.Counting.{Count, count_of, Failed, SomeFailed, RanCounted, RoundDone}
 
@@ -78,3 +78,12 @@ done_well D start first jobs g now full some r none =
 
 pub some_failures : (D : Document) (start : Story) (first : Count) (jobs : List Given) (g : Story) (now : Count) (full : List Text) (failed : Bool) → (r : RoundDone D start first jobs g now full failed) → failed ≡ true → 0 < r.failures
 some_failures D start first jobs g now full some r one = is_some r.failures (sym r.has_failed ∙ one)
+
+-- ---- what a client leaves of its store
+
+pub ran_as : (D : Document) (h k g : Story) (job : Given) (t u : Told) → k ≡ h → t ≡ u → Ran D k job t g → Ran D h job u g
+ran_as D h k g job t u e f ran = subst (λ x. Ran D x job u g) e (subst (λ x. Ran D k job x g) f ran)
+
+-- one call failed, behind others of which none did
+pub of_fault : {O : Type 0} (faults : O → ℕ) (a from mid b : Stored Content O) → from ≡ a → faults mid.outage ≡ faults from.outage + 0 → mid.row ≤ from.row + 0 → faults b.outage ≡ faults mid.outage + 1 → b.row ≤ mid.row + 1 → Failed 1 (count_of faults a) (count_of faults b)
+of_fault faults a from mid b e r q s t = of_same faults 1 a from b e (omega (arith, r, s)) (omega (arith, q, t))

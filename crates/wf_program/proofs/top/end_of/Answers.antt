@@ -15,4 +15,4 @@ returns-in-Ok-Run-clause-ends g c =
       faults_after = g.S.Source.faults c.what_is_asked.new.source;
     } in
     let asks = subst (λ (a : Asked). Asks c.args.words.now source (Ok a)) c.in-Ok-Run.field-0-is c.in-Ok-Run.ensures in
-    run_ends c.args.words.now source c.in-Ok-Run.document c.in-Ok-Run.shown c.in-Ok-Run.mode (g.O.Outage.faults c.args.outage) asks.0 _ _ _ c.run.ensures
+    run_ends c.args.words.now source c.in-Ok-Run.document c.in-Ok-Run.shown c.in-Ok-Run.mode (g.O.Outage.faults c.args.outage) asks.0 _ _ _ c.run.ensures.left
