@@ -28,7 +28,7 @@ pub fn get<C: Client<WfContent>>(
     key: &Key,
 ) -> Result<Snapshot<WfContent>, StoreRefused>
     ensures leaves { LeavesClient begins justified C.seen C.law C.place C.faults client.old client.new }
-    ensures still { result ≢ Err Fault → FailedBy C.faults C.row 0 client.old client.new }
+    ensures still { result ≢ Err Fault → FailedBy C.faults C.in_row 0 client.old client.new }
     ensures others { CountsOthers
         (C.seen client.old) (C.seen client.new) (C.others client.old) (C.others client.new) }
     ensures back { result ≢ Err OutOfMemory →
@@ -57,7 +57,7 @@ pub fn create<C: Client<WfContent>>(
     requires justified { WillBeJustified begins justified (C.law client.old)
         apply (C.seen client.old) key 0 (event change (Some content)) }
     ensures leaves { LeavesClient begins justified C.seen C.law C.place C.faults client.old client.new }
-    ensures still { result ≢ Err Fault → FailedBy C.faults C.row 0 client.old client.new }
+    ensures still { result ≢ Err Fault → FailedBy C.faults C.in_row 0 client.old client.new }
     ensures did { result ≢ Err OutOfMemory → DidBehind
         (C.seen client.old) (changed key 0 (event change (Some content))) (change_reply result)
         (C.seen client.new) (C.others client.old) (C.others client.new) }
@@ -85,7 +85,7 @@ pub fn write<C: Client<WfContent>>(
     requires justified { WillBeJustified begins justified (C.law client.old)
         apply (C.seen client.old) from.now.key from.now.version (event change None) }
     ensures leaves { LeavesClient begins justified C.seen C.law C.place C.faults client.old client.new }
-    ensures still { result ≢ Err Fault → FailedBy C.faults C.row 0 client.old client.new }
+    ensures still { result ≢ Err Fault → FailedBy C.faults C.in_row 0 client.old client.new }
     ensures did { result ≢ Err OutOfMemory → DidBehind
         (C.seen client.old) (changed from.now.key from.now.version (event change None)) (change_reply result)
         (C.seen client.new) (C.others client.old) (C.others client.new) }

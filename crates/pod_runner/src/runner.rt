@@ -110,7 +110,7 @@ impl Runner {
         requires seen { HandHasSeen (C.seen client.old) (hand_of (C.lag client.old) self.old) }
         ensures leaves { LeavesClient
             begins justified C.seen C.law C.place C.faults client.old client.new }
-        ensures still { result ≢ Err faults.Fault → FailedBy C.faults C.row 0 client.old client.new }
+        ensures still { result ≢ Err faults.Fault → FailedBy C.faults C.in_row 0 client.old client.new }
         ensures seen { HandHasSeen (C.seen client.new) (hand_of (C.lag client.new) self.new) }
         ensures made { result ≢ Err faults.Memory → (i : ℕ) → StepMade
             (law_of document.now) i (C.seen client.old) (hand_of (C.lag client.old) self.old) (C.others client.old)

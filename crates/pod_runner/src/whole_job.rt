@@ -32,12 +32,12 @@ pub fn run_pod<C: Client<WfContent>>(
     requires law { C.law client.old ≡ document.now }
     ensures leaves { LeavesClient
         begins justified C.seen C.law C.place C.faults client.old client.new }
-    ensures still { result ≢ Err faults.Fault → FailedBy C.faults C.row 0 client.old client.new }
+    ensures still { result ≢ Err faults.Fault → FailedBy C.faults C.in_row 0 client.old client.new }
     ensures made { result ≢ Err faults.Memory → JobMade
         (law_of document.now) (record { workflow = workflow.now; node = node.now }) (C.seen client.old) (C.lag client.old)
         (C.others client.old) result (C.seen client.new) (C.others client.new) }
     ensures fault { result ≡ Err faults.Fault → RoseSince
-        (LeavesClient begins justified C.seen C.law C.place C.faults) C.faults C.row C.rose client.old client.new
+        (LeavesClient begins justified C.seen C.law C.place C.faults) C.faults C.in_row C.rose client.old client.new
         × Rose (C.faults client.old) (C.faults client.new) }
     ensures alone { result ≢ Err faults.Memory → C.lag client.old ≡ 0 →
         C.others client.new ≡ C.others client.old → Ran (law_of document.now)

@@ -68,7 +68,7 @@ pub(crate) fn perform<C: Client<WfContent>>(
         ≡ act (matter_told matter.now) }
     requires plan { IsPlan job.now.workflow job.now.views (matter_told matter.now) plan }
     ensures leaves { LeavesClient begins justified C.seen C.law C.place C.faults client.old client.new }
-    ensures still { result ≢ Err Fault → FailedBy C.faults C.row 0 client.old client.new }
+    ensures still { result ≢ Err Fault → FailedBy C.faults C.in_row 0 client.old client.new }
     ensures did { result ≢ Err OutOfMemory → ActDone
         job.now.workflow job.now.views (matter_told matter.now)
         (C.seen client.old) result (C.seen client.new) (C.others client.old) (C.others client.new) }

@@ -92,7 +92,7 @@ fn read<C: Client<WfContent>>(
     requires next { worker_next (law_of document.now) job.old.workflow job.old.views ≡ get key.now }
     ensures leaves { LeavesClient
         begins justified C.seen C.law C.place C.faults client.old client.new }
-    ensures still { result ≢ Err faults.Fault → FailedBy C.faults C.row 0 client.old client.new }
+    ensures still { result ≢ Err faults.Fault → FailedBy C.faults C.in_row 0 client.old client.new }
     ensures made { result ≢ Err faults.Memory → JobStepMade
         (law_of document.now) job.old.workflow (C.seen client.old) job.old.views (C.lag client.old)
         (C.others client.old) result (C.seen client.new) job.new.views (C.lag client.new) (C.others client.new) }
@@ -147,7 +147,7 @@ fn change<C: Client<WfContent>>(
         ≡ act (matter_told matter.now) }
     ensures leaves { LeavesClient
         begins justified C.seen C.law C.place C.faults client.old client.new }
-    ensures still { result ≢ Err faults.Fault → FailedBy C.faults C.row 0 client.old client.new }
+    ensures still { result ≢ Err faults.Fault → FailedBy C.faults C.in_row 0 client.old client.new }
     ensures made { result ≢ Err faults.Memory → JobStepMade
         (law_of document.now) job.old.workflow (C.seen client.old) job.old.views (C.lag client.old)
         (C.others client.old) result (C.seen client.new) job.new.views (C.lag client.new) (C.others client.new) }
@@ -173,7 +173,7 @@ pub(crate) fn step<C: Client<WfContent>>(
     requires valid { HasValidWorkflows (law_of document.now) }
     requires views { ViewsOf (C.seen client.old) job.old.workflow job.old.views }
     ensures leaves { LeavesClient begins justified C.seen C.law C.place C.faults client.old client.new }
-    ensures still { result ≢ Err faults.Fault → FailedBy C.faults C.row 0 client.old client.new }
+    ensures still { result ≢ Err faults.Fault → FailedBy C.faults C.in_row 0 client.old client.new }
     ensures made { result ≢ Err faults.Memory → JobStepMade
         (law_of document.now) job.old.workflow (C.seen client.old) job.old.views (C.lag client.old)
         (C.others client.old) result (C.seen client.new) job.new.views (C.lag client.new) (C.others client.new) }

@@ -31,7 +31,7 @@ pub trait Client<T: Content> {
     ghost faults: { Self → ℕ };
 
     /// How many of its last calls in a row it knows to have failed.
-    ghost row: { Self → ℕ };
+    ghost in_row: { Self → ℕ };
 
     /// A Fault came between these two.
     ghost rose: { Self → Self → Type 0 };
@@ -53,7 +53,7 @@ pub trait Client<T: Content> {
         ensures law { law self.new ≡ law self.old }
         ensures place { place self.new ≡ place self.old }
         ensures faults { faults self.old ≤ faults self.new }
-        ensures still { result ≢ Err Fault → FailedBy faults row 0 self.old self.new }
+        ensures still { result ≢ Err Fault → FailedBy faults in_row 0 self.old self.new }
         ensures rose { result ≡ Err Fault → rose self.old self.new }
         ensures cause { result ≡ Err Fault → Rose (faults self.old) (faults self.new) };
 
@@ -73,7 +73,7 @@ pub trait Client<T: Content> {
         ensures law { law self.new ≡ law self.old }
         ensures place { place self.new ≡ place self.old }
         ensures faults { faults self.old ≤ faults self.new }
-        ensures still { result ≢ Err Fault → FailedBy faults row 0 self.old self.new }
+        ensures still { result ≢ Err Fault → FailedBy faults in_row 0 self.old self.new }
         ensures rose { result ≡ Err Fault → rose self.old self.new }
         ensures cause { result ≡ Err Fault → Rose (faults self.old) (faults self.new) };
 
@@ -99,7 +99,7 @@ pub trait Client<T: Content> {
         ensures law { law self.new ≡ law self.old }
         ensures place { place self.new ≡ place self.old }
         ensures faults { faults self.old ≤ faults self.new }
-        ensures still { result ≢ Err Fault → FailedBy faults row 0 self.old self.new }
+        ensures still { result ≢ Err Fault → FailedBy faults in_row 0 self.old self.new }
         ensures rose { result ≡ Err Fault → rose self.old self.new }
         ensures cause { result ≡ Err Fault → Rose (faults self.old) (faults self.new) };
 
@@ -115,7 +115,7 @@ pub trait Client<T: Content> {
         ensures law { law self.new ≡ law self.old }
         ensures place { place self.new ≡ place self.old }
         ensures faults { faults self.old ≤ faults self.new }
-        ensures still { result ≢ Err Fault → FailedBy faults row 0 self.old self.new }
+        ensures still { result ≢ Err Fault → FailedBy faults in_row 0 self.old self.new }
         ensures rose { result ≡ Err Fault → rose self.old self.new }
         ensures cause { result ≡ Err Fault → Rose (faults self.old) (faults self.new) };
 }

@@ -75,7 +75,7 @@ impl<'a, T: Content, O: Outage> Client<T> for MemClient<'a, T, O> {
 
     ghost faults = { λ c. O.faults c.store.now.outage };
 
-    ghost row = { λ c. c.store.now.row };
+    ghost in_row = { λ c. c.store.now.row };
 
     ghost rose = { FailedBy (λ c. O.faults c.store.now.outage) (λ c. c.store.now.row) 1 };
 

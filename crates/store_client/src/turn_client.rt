@@ -84,7 +84,7 @@ impl<'a, T: Content, O: Outage, G: Gate, R: Wait> Client<T> for TurnClient<'a, T
     ghost faults = { λ client. client.faults };
 
     // The calls of others, which fail too, are not seen.
-    ghost row = { λ _. 0 };
+    ghost in_row = { λ _. 0 };
 
     ghost rose = { λ old new. Rose old.faults new.faults };
 
