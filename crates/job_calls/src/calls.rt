@@ -7,7 +7,6 @@ ghost use Rattle.history.specs.Versions.{back_of, lag_after};
 ghost use Rattle.object_store.specs.declared.refused.StoreRefused.TheVariants.{Fault, Memory as OutOfMemory};
 ghost use Rattle.object_store.specs.Entries.{MakesObject, ChangesObject};
 ghost use Rattle.object_store.specs.Answers.{IsOf};
-ghost use Rattle.object_store.specs.Stored.{FailedBy};
 ghost use Rattle.store_client.specs.Calls.{CountsOthers, WillBeJustified};
 ghost use Rattle.law.specs.Contents.{apply};
 ghost use Rattle.next_step.specs.Changes.{change as changed};
@@ -28,7 +27,6 @@ pub fn get<C: Client<WfContent>>(
     key: &Key,
 ) -> Result<Snapshot<WfContent>, StoreRefused>
     ensures leaves { LeavesClient begins justified C.seen C.law C.place C.faults client.old client.new }
-    ensures still { result ≢ Err Fault → FailedBy C.faults C.in_row 0 client.old client.new }
     ensures others { CountsOthers
         (C.seen client.old) (C.seen client.new) (C.others client.old) (C.others client.new) }
     ensures back { result ≢ Err OutOfMemory →
@@ -57,7 +55,6 @@ pub fn create<C: Client<WfContent>>(
     requires justified { WillBeJustified begins justified (C.law client.old)
         apply (C.seen client.old) key 0 (event change (Some content)) }
     ensures leaves { LeavesClient begins justified C.seen C.law C.place C.faults client.old client.new }
-    ensures still { result ≢ Err Fault → FailedBy C.faults C.in_row 0 client.old client.new }
     ensures did { result ≢ Err OutOfMemory → DidBehind
         (C.seen client.old) (changed key 0 (event change (Some content))) (change_reply result)
         (C.seen client.new) (C.others client.old) (C.others client.new) }
@@ -85,7 +82,6 @@ pub fn write<C: Client<WfContent>>(
     requires justified { WillBeJustified begins justified (C.law client.old)
         apply (C.seen client.old) from.now.key from.now.version (event change None) }
     ensures leaves { LeavesClient begins justified C.seen C.law C.place C.faults client.old client.new }
-    ensures still { result ≢ Err Fault → FailedBy C.faults C.in_row 0 client.old client.new }
     ensures did { result ≢ Err OutOfMemory → DidBehind
         (C.seen client.old) (changed from.now.key from.now.version (event change None)) (change_reply result)
         (C.seen client.new) (C.others client.old) (C.others client.new) }

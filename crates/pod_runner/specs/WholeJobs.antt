@@ -1,7 +1,6 @@
 -- A whole job on a pod: its calls, and what is told of it.
 use Rattle.std.specs.Prelude.{◌≡◌, ◌≢◌, ℕ, Option, Some, Result, Ok, Err}
 use Rattle.object_store.specs.declared.snapshot.Snapshot.{Snapshot}
-use Rattle.object_store.specs.Stored.{FailedBy}
 use Rattle.law.specs.Documents.{Document}
 use Rattle.law.specs.Contents.{Content, Story}
 use Rattle.next_step.specs.Replies.{found}
@@ -35,10 +34,9 @@ told_of (Err faults.Fault) = failed
 told_of (Err (faults.Conflict expected there)) = was_moved expected there
 told_of (Err faults.Memory) = failed
 
--- some calls, of which none failed, left a client so, and a Fault came behind them
+-- some calls left a client so, and a Fault came behind them
 pub record RoseSince
-    {S : Type 0} (leaves : S → S → Type 0) (failures row : S → ℕ) (rose : S → S → Type 0) (before after : S) : Type 0 where
+    {S : Type 0} (leaves : S → S → Type 0) (rose : S → S → Type 0) (before after : S) : Type 0 where
   pub at : S
   pub left : leaves before at
-  pub still : FailedBy failures row 0 before at
   pub rises : rose at after

@@ -8,7 +8,6 @@ ghost use Rattle.next_step.specs.Runner.{finish as finishes, runner_next};
 ghost use Rattle.tree_types.specs.declared.entry.Key.TheVariants as of_key;
 ghost use Rattle.tree_types.specs.declared.entry.Entry.TheVariants as of_entry;
 ghost use Rattle.object_store.specs.Answers.{IsOf};
-ghost use Rattle.object_store.specs.Stored.{FailedBy};
 ghost use Rattle.reply_laws.specs.Replies.{LeavesClient};
 ghost use Rattle.wf_object.specs.Documents.{law_of};
 ghost use Rattle.wf_object.specs.Kept.{begins, justified};
@@ -105,7 +104,6 @@ pub(crate) fn read<C: Client<WfContent>>(
     client: &mut C,
 ) -> Result<Option<Snapshot<WfContent>>, RunFault>
     ensures leaves { LeavesClient begins justified C.seen C.law C.place C.faults client.old client.new }
-    ensures still { result ≢ Err faults.Fault → FailedBy C.faults C.in_row 0 client.old client.new }
     ensures made { result ≢ Err faults.Memory → ReadMade
         job.now (C.seen client.old) (C.lag client.old) (C.others client.old) result
         (C.seen client.new) (C.lag client.new) (C.others client.new) }
@@ -133,7 +131,6 @@ fn finish<C: Client<WfContent>>(
     requires next { runner_next (law_of document.now) job.now.workflow job.now.node
         (Some (seen_pod seen.now.version pod.now seen.now.tick)) ≡ finishes outcome }
     ensures leaves { LeavesClient begins justified C.seen C.law C.place C.faults client.old client.new }
-    ensures still { result ≢ Err faults.Fault → FailedBy C.faults C.in_row 0 client.old client.new }
     ensures made { result ≢ Err faults.Memory → EndMade
         (law_of document.now) job.now (pod_seen (Some seen.now)) (C.seen client.old) (C.others client.old) result
         (C.seen client.new) (C.others client.new) }
@@ -159,7 +156,6 @@ pub(crate) fn end<C: Client<WfContent>>(
     requires of { IsOfJob seen.now job.now }
     requires seen { IsOf apply seen.now (C.seen client.old) }
     ensures leaves { LeavesClient begins justified C.seen C.law C.place C.faults client.old client.new }
-    ensures still { result ≢ Err faults.Fault → FailedBy C.faults C.in_row 0 client.old client.new }
     ensures made { result ≢ Err faults.Memory → EndMade
         (law_of document.now) job.now (pod_seen (Some seen.now)) (C.seen client.old) (C.others client.old) result
         (C.seen client.new) (C.others client.new) }
@@ -216,7 +212,6 @@ pub(crate) fn step<C: Client<WfContent>>(
     requires of { OfJob job.now pod.old }
     requires seen { HasPod (C.seen client.old) job.now (pod_seen pod.old) }
     ensures leaves { LeavesClient begins justified C.seen C.law C.place C.faults client.old client.new }
-    ensures still { result ≢ Err faults.Fault → FailedBy C.faults C.in_row 0 client.old client.new }
     ensures made { result ≢ Err faults.Memory → JobStepMade
         (law_of document.now) job.now (C.seen client.old) (pod_seen pod.old) (C.lag client.old)
         (C.others client.old) result (C.seen client.new) (pod_seen pod.new) (C.lag client.new) (C.others client.new) }

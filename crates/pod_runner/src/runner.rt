@@ -3,7 +3,6 @@
 ghost use Rattle.std.specs.Prelude.{◌≡◌, ◌≢◌, ℕ, Err, OnOk, OnErr};
 ghost use Rattle.io_edge.specs.Cause.{Rose};
 ghost use Rattle.next_laws.specs.Playing.{HandHasSeen};
-ghost use Rattle.object_store.specs.Stored.{FailedBy};
 ghost use Rattle.reply_laws.specs.Replies.{LeavesClient};
 ghost use Rattle.wf_object.specs.Documents.{law_of};
 ghost use Rattle.wf_object.specs.Kept.{begins, justified};
@@ -110,7 +109,6 @@ impl Runner {
         requires seen { HandHasSeen (C.seen client.old) (hand_of (C.lag client.old) self.old) }
         ensures leaves { LeavesClient
             begins justified C.seen C.law C.place C.faults client.old client.new }
-        ensures still { result ≢ Err faults.Fault → FailedBy C.faults C.in_row 0 client.old client.new }
         ensures seen { HandHasSeen (C.seen client.new) (hand_of (C.lag client.new) self.new) }
         ensures made { result ≢ Err faults.Memory → (i : ℕ) → StepMade
             (law_of document.now) i (C.seen client.old) (hand_of (C.lag client.old) self.old) (C.others client.old)

@@ -3,7 +3,6 @@
 ghost use Rattle.std.specs.Prelude.{◌≡◌, ◌≢◌, Err};
 ghost use Rattle.io_edge.specs.Cause.{Rose};
 ghost use Rattle.next_step.specs.Hands.{for_pod};
-ghost use Rattle.object_store.specs.Stored.{FailedBy};
 ghost use Rattle.reply_laws.specs.Replies.{LeavesClient};
 ghost use Rattle.run_laws.specs.Whole.{Ran};
 ghost use Rattle.wf_object.specs.Documents.{law_of};
@@ -32,12 +31,11 @@ pub fn run_pod<C: Client<WfContent>>(
     requires law { C.law client.old ≡ document.now }
     ensures leaves { LeavesClient
         begins justified C.seen C.law C.place C.faults client.old client.new }
-    ensures still { result ≢ Err faults.Fault → FailedBy C.faults C.in_row 0 client.old client.new }
     ensures made { result ≢ Err faults.Memory → JobMade
         (law_of document.now) (record { workflow = workflow.now; node = node.now }) (C.seen client.old) (C.lag client.old)
         (C.others client.old) result (C.seen client.new) (C.others client.new) }
     ensures fault { result ≡ Err faults.Fault → RoseSince
-        (LeavesClient begins justified C.seen C.law C.place C.faults) C.faults C.in_row C.rose client.old client.new
+        (LeavesClient begins justified C.seen C.law C.place C.faults) C.rose client.old client.new
         × Rose (C.faults client.old) (C.faults client.new) }
     ensures alone { result ≢ Err faults.Memory → C.lag client.old ≡ 0 →
         C.others client.new ≡ C.others client.old → Ran (law_of document.now)

@@ -21,7 +21,6 @@ use Rattle.next_step.specs.Hands.{Given, for_flow, for_pod, Hand, with_job, Call
 use Rattle.next_step.specs.Plays.{Stepped, has_none, gets, changes, is_full, is_done, gets_pod, finishes, ends}
 use Rattle.next_step.specs.Rounds.{WorkerEnds, by_done, by_full, by_get, by_change, worker_ran, faults_of}
 use Rattle.next_laws.specs.Viewing.{ViewsStay}
-use Rattle.object_store.specs.Stored.{FailedBy}
 use Rattle.reply_laws.specs.Replies.{LeavesClient}
 use Rattle.run_laws.specs.Whole.{Told, told_by, told_of_end, Ran}
 use Rattle.worker_job.specs.Jobs.{OneJob}
@@ -318,14 +317,8 @@ module _ {S L P : Type 0} (begins : L → List (Key × Content) → Type 0) (jus
     rising = omega (arith, x.rising, y.rising);
   }
 
-  pub fault_came : (row : S → ℕ) (rose : S → S → Type 0) (a b c : S) → LeavesClient begins justified seen law place failures a b → FailedBy failures row 0 a b → rose b c → Rose (failures b) (failures c) → FaultCame begins justified seen law place failures row rose a c
-  fault_came row rose a b c x s y z = record { at = b; leaves = x; still = s; came = y; risen = rose_later (failures a) (failures b) (failures c) x.rising z }
-
-pub still_itself : {S : Type 0} (failures row : S → ℕ) (a : S) → FailedBy failures row 0 a a
-still_itself failures row a = record { risen = omega arith; in_row = omega arith }
-
-pub still_then : {S : Type 0} (failures row : S → ℕ) (a b c : S) → FailedBy failures row 0 a b → FailedBy failures row 0 b c → FailedBy failures row 0 a c
-still_then failures row a b c x y = record { risen = omega (arith, x.risen, y.risen); in_row = omega (arith, x.in_row, y.in_row) }
+  pub fault_came : (rose : S → S → Type 0) (a b c : S) → LeavesClient begins justified seen law place failures a b → rose b c → Rose (failures b) (failures c) → FaultCame begins justified seen law place failures rose a c
+  fault_came rose a b c x y z = record { at = b; leaves = x; came = y; risen = rose_later (failures a) (failures b) (failures c) x.rising z }
 
 -- ---- the steps that a loop makes
 
@@ -338,18 +331,15 @@ large_not_memory r e m = absurd cc
 called_not_memory : (r : Result StepDone ReconcileFault) → r ≡ Ok Called → r ≡ Err faults.Memory → ⊥
 called_not_memory r e m = absurd cc
 
-called_not_fault : (r : Result StepDone ReconcileFault) → r ≡ Ok Called → r ≡ Err faults.Fault → ⊥
-called_not_fault r e m = absurd cc
-
 pub not_called_ended : {e : HowEnded} (r : Result StepDone ReconcileFault) → r ≡ Ok (Ended e) → r ≡ Ok Called → ⊥
 not_called_ended r q c = absurd cc
 
 pub err_not_called : (r : Result StepDone ReconcileFault) (e : ReconcileFault) → r ≡ Err e → r ≡ Ok Called → ⊥
 err_not_called r e q c = absurd cc
 
-module _ {S L P : Type 0} (begins : L → List (Key × Content) → Type 0) (justified : L → Story → Event Content → Type 0) (seen : S → Story) (law : S → L) (place : S → P) (failures row lag others : S → ℕ) (D : Document) (w : Text) (first : S) where
+module _ {S L P : Type 0} (begins : L → List (Key × Content) → Type 0) (justified : L → Story → Event Content → Type 0) (seen : S → Story) (law : S → L) (place : S → P) (failures lag others : S → ℕ) (D : Document) (w : Text) (first : S) where
   abbrev Goes : OneJob → S → Type 0
-  Goes j now = Going begins justified seen law place failures row lag others D w first j now
+  Goes j now = Going begins justified seen law place failures lag others D w first j now
 
   pub going_first : ViewsStay → (x : Text) (j : OneJob) → x ≡ w → j ≡ record { workflow = x; views = nothing } → Goes j first
   going_first stay x j e is =
@@ -360,11 +350,10 @@ module _ {S L P : Type 0} (begins : L → List (Key × Content) → Type 0) (jus
         same = refl;
         viewed = stay.begin (seen first) w;
         leaves = leaves_itself begins justified seen law place failures first;
-        still = still_itself failures row first;
         steps = begun;
       }
 
-  module _ (j : OneJob) (mid : S) (go : Goes j mid) (r : Result StepDone ReconcileFault) (k : OneJob) (now : S) (left : LeavesClient begins justified seen law place failures mid now) (stood : r ≢ Err faults.Fault → FailedBy failures row 0 mid now) (step_made : r ≢ Err faults.Memory → JobStepMade D j.workflow (seen mid) j.views (lag mid) (others mid) r (seen now) k.views (lag now) (others now)) where
+  module _ (j : OneJob) (mid : S) (go : Goes j mid) (r : Result StepDone ReconcileFault) (k : OneJob) (now : S) (left : LeavesClient begins justified seen law place failures mid now) (step_made : r ≢ Err faults.Memory → JobStepMade D j.workflow (seen mid) j.views (lag mid) (others mid) r (seen now) k.views (lag now) (others now)) where
     all_left : LeavesClient begins justified seen law place failures first now
     all_left = leaves_then begins justified seen law place failures first mid now go.leaves left
 
@@ -377,7 +366,6 @@ module _ {S L P : Type 0} (begins : L → List (Key × Content) → Type 0) (jus
           same = same ∙ go.same;
           viewed = subst (λ y. ViewsOf (seen now) y k.views) (sym same) (viewed told);
           leaves = all_left;
-          still = still_then failures row first mid now go.still (stood (called_not_fault r told));
           steps = with_step go.steps one;
         }
 
@@ -399,22 +387,20 @@ module _ {S L P : Type 0} (begins : L → List (Key × Content) → Type 0) (jus
 
       pub record Told_whole (rose : S → S → Type 0) : Type 0 where
         pub leaves : LeavesClient begins justified seen law place failures first now
-        pub still : answer ≢ Err faults.Fault → FailedBy failures row 0 first now
         pub made : answer ≢ Err faults.Memory → JobMade D w (seen first) (lag first) (others first) answer (seen now) (lag now) (others now)
         pub alone : answer ≢ Err faults.Memory → lag first ≡ 0 → others now ≡ others first → Ran D (seen first) (for_flow w) (told_of answer) (seen now)
         pub conflict : (expected there : ℕ) → answer ≡ Err (faults.Conflict expected there) → MovedOn D w expected there (seen now)
         pub large : answer ≡ Err faults.TooLarge → WouldBeTooLarge D w (seen now)
-        pub fault : answer ≡ Err faults.Fault → FaultCame begins justified seen law place failures row rose first now
+        pub fault : answer ≡ Err faults.Fault → FaultCame begins justified seen law place failures rose first now
 
       pub told_whole : (rose : S → S → Type 0) → ViewsStay → (r ≡ Err faults.Fault → rose mid now × Rose (failures mid) (failures now)) → Told_whole rose
       told_whole rose stay risen = record {
         leaves = all_left;
-        still = λ n. still_then failures row first mid now go.still (stood (λ q. n (is ∙ ap returned q)));
         made = whole_made;
         alone = λ m. ran_alone D w (seen first) (lag first) (others first) answer (seen now) (lag now) (others now) (whole_made m);
         conflict = λ a b q. moved_on D w (seen first) (lag first) (others first) answer (seen now) (lag now) (others now) (whole_made (conflict_not_memory answer a b q)) stay a b q;
         large = λ q. too_large D w (seen first) (lag first) (others first) answer (seen now) (lag now) (others now) (whole_made (large_not_memory answer q)) stay q;
         fault = λ q.
             let f = risen (returned_err r faults.Fault (sym q ∙ is)) in
-            fault_came begins justified seen law place failures row rose first mid now go.leaves go.still f.0 f.1;
+            fault_came begins justified seen law place failures rose first mid now go.leaves f.0 f.1;
       }

@@ -6,7 +6,6 @@ use Rattle.law.specs.Documents.{Text, Document}
 use Rattle.law.specs.Contents.{Content, Story}
 use Rattle.next_step.specs.Views.{nothing}
 use Rattle.next_step.specs.Changes.{ViewsOf}
-use Rattle.object_store.specs.Stored.{FailedBy}
 use Rattle.reply_laws.specs.Replies.{LeavesClient}
 use Rattle.worker_job.specs.Jobs.{OneJob}
 use Rattle.reconcile_core.specs.declared.answers.StepDone.{StepDone}
@@ -32,10 +31,9 @@ after_answer _ k = with_next k
 -- some steps of a job, which goes on, by the meanings of the client through which they were made
 pub record Going
     {S L P : Type 0} (begins : L → List (Key × Content) → Type 0) (justified : L → Story → Event Content → Type 0)
-    (seen : S → Story) (law : S → L) (place : S → P) (faults row lag others : S → ℕ) (D : Document) (w : Text) (first : S)
+    (seen : S → Story) (law : S → L) (place : S → P) (faults lag others : S → ℕ) (D : Document) (w : Text) (first : S)
     (job : OneJob) (now : S) : Type 0 where
   pub same : job.workflow ≡ w
   pub viewed : ViewsOf (seen now) job.workflow job.views
   pub leaves : LeavesClient begins justified seen law place faults first now
-  pub still : FailedBy faults row 0 first now
   pub steps : Steps D w (seen first) (lag first) (others first) (seen now) job.views (lag now) (others now)

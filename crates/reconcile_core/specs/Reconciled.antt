@@ -13,7 +13,6 @@ use Rattle.next_step.specs.Next.{act, worker_next}
 use Rattle.next_step.specs.Changes.{change_of, AddsFor, ViewsOf}
 use Rattle.next_step.specs.Replies.{conflict}
 use Rattle.next_step.specs.Calls.{Did}
-use Rattle.object_store.specs.Stored.{FailedBy}
 use Rattle.reply_laws.specs.Replies.{LeavesClient}
 use Rattle.run_laws.specs.Whole.{Told, went, was_full, failed, was_moved}
 use Rattle.reconcile_core.specs.declared.answers.StepDone.{StepDone}
@@ -86,13 +85,12 @@ pub record WouldBeTooLarge (D : Document) (w : Text) (now : Story) : Type 0 wher
   pub next : worker_next D w views ≡ act (record_fact fact)
   pub large : IsTooLarge flow.content fact
 
--- A Fault came with the last of some calls, of which no other failed, and the faults rose.
+-- A Fault came with the last of some calls, and the faults rose.
 pub record FaultCame
     {S L P : Type 0} (begins : L → List (Key × Content) → Type 0) (justified : L → Story → Event Content → Type 0)
-    (seen : S → Story) (law : S → L) (place : S → P) (failures row : S → ℕ) (rose : S → S → Type 0)
-    (before now : S) : Type 0 where
+    (seen : S → Story) (law : S → L) (place : S → P) (failures : S → ℕ) (rose : S → S → Type 0) (before now : S)
+    : Type 0 where
   pub at : S
   pub leaves : LeavesClient begins justified seen law place failures before at
-  pub still : FailedBy failures row 0 before at
   pub came : rose at now
   pub risen : Rose (failures before) (failures now)

@@ -3,7 +3,6 @@
 ghost use Rattle.std.specs.Prelude.{◌≡◌, ◌≢◌, ◌<◌, ◌^◌, length, None, Err, IfOk, MatchOption};
 ghost use Rattle.io_edge.specs.Cause.{Rose};
 ghost use Rattle.object_store.specs.declared.refused.StoreRefused.TheVariants.{Fault, Memory as OutOfMemory};
-ghost use Rattle.object_store.specs.Stored.{FailedBy};
 ghost use Rattle.lawful.specs.Manifests.{HasValidWorkflows};
 ghost use Rattle.next_step.specs.Next.{act, worker_next};
 ghost use Rattle.next_step.specs.Changes.{ViewsOf};
@@ -68,7 +67,6 @@ pub(crate) fn perform<C: Client<WfContent>>(
         ≡ act (matter_told matter.now) }
     requires plan { IsPlan job.now.workflow job.now.views (matter_told matter.now) plan }
     ensures leaves { LeavesClient begins justified C.seen C.law C.place C.faults client.old client.new }
-    ensures still { result ≢ Err Fault → FailedBy C.faults C.in_row 0 client.old client.new }
     ensures did { result ≢ Err OutOfMemory → ActDone
         job.now.workflow job.now.views (matter_told matter.now)
         (C.seen client.old) result (C.seen client.new) (C.others client.old) (C.others client.new) }

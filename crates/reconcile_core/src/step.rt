@@ -5,7 +5,6 @@ ghost use Rattle.next_step.specs.Replies.{after};
 ghost use Rattle.worker_job.specs.Jobs.{IsRead, FactGoesOn, SaveGoesOn, LocksGoOn};
 ghost use Rattle.reconcile_core.specs.Hearing.{Hears};
 ghost use Rattle.io_edge.specs.Cause.{Rose};
-ghost use Rattle.object_store.specs.Stored.{FailedBy};
 ghost use Rattle.lawful.specs.Manifests.{HasValidWorkflows};
 ghost use Rattle.next_step.specs.Next.{get, act, worker_next};
 ghost use Rattle.next_step.specs.Changes.{ViewsOf};
@@ -92,7 +91,6 @@ fn read<C: Client<WfContent>>(
     requires next { worker_next (law_of document.now) job.old.workflow job.old.views ≡ get key.now }
     ensures leaves { LeavesClient
         begins justified C.seen C.law C.place C.faults client.old client.new }
-    ensures still { result ≢ Err faults.Fault → FailedBy C.faults C.in_row 0 client.old client.new }
     ensures made { result ≢ Err faults.Memory → JobStepMade
         (law_of document.now) job.old.workflow (C.seen client.old) job.old.views (C.lag client.old)
         (C.others client.old) result (C.seen client.new) job.new.views (C.lag client.new) (C.others client.new) }
@@ -147,7 +145,6 @@ fn change<C: Client<WfContent>>(
         ≡ act (matter_told matter.now) }
     ensures leaves { LeavesClient
         begins justified C.seen C.law C.place C.faults client.old client.new }
-    ensures still { result ≢ Err faults.Fault → FailedBy C.faults C.in_row 0 client.old client.new }
     ensures made { result ≢ Err faults.Memory → JobStepMade
         (law_of document.now) job.old.workflow (C.seen client.old) job.old.views (C.lag client.old)
         (C.others client.old) result (C.seen client.new) job.new.views (C.lag client.new) (C.others client.new) }
@@ -173,7 +170,6 @@ pub(crate) fn step<C: Client<WfContent>>(
     requires valid { HasValidWorkflows (law_of document.now) }
     requires views { ViewsOf (C.seen client.old) job.old.workflow job.old.views }
     ensures leaves { LeavesClient begins justified C.seen C.law C.place C.faults client.old client.new }
-    ensures still { result ≢ Err faults.Fault → FailedBy C.faults C.in_row 0 client.old client.new }
     ensures made { result ≢ Err faults.Memory → JobStepMade
         (law_of document.now) job.old.workflow (C.seen client.old) job.old.views (C.lag client.old)
         (C.others client.old) result (C.seen client.new) job.new.views (C.lag client.new) (C.others client.new) }

@@ -1,7 +1,6 @@
 //! A whole job.
 
 ghost use Rattle.std.specs.Prelude.{◌≡◌, ◌≢◌, ℕ, Err};
-ghost use Rattle.object_store.specs.Stored.{FailedBy};
 ghost use Rattle.lawful.specs.Manifests.{HasValidWorkflows};
 ghost use Rattle.next_step.specs.Hands.{for_flow};
 ghost use Rattle.next_step.specs.Views.{nothing};
@@ -32,7 +31,6 @@ fn finish<C: Client<WfContent>>(
     requires valid { HasValidWorkflows (law_of document.now) }
     requires begun { job.old.views ≡ nothing }
     ensures leaves { LeavesClient begins justified C.seen C.law C.place C.faults client.old client.new }
-    ensures still { result ≢ Err faults.Fault → FailedBy C.faults C.in_row 0 client.old client.new }
     ensures made { result ≢ Err faults.Memory → JobMade
         (law_of document.now) job.old.workflow (C.seen client.old) (C.lag client.old) (C.others client.old)
         result (C.seen client.new) (C.lag client.new) (C.others client.new) }
@@ -44,7 +42,7 @@ fn finish<C: Client<WfContent>>(
     ensures large { result ≡ Err faults.TooLarge →
         WouldBeTooLarge (law_of document.now) job.old.workflow (C.seen client.new) }
     ensures fault { result ≡ Err faults.Fault → FaultCame
-        begins justified C.seen C.law C.place C.faults C.in_row C.rose client.old client.new }
+        begins justified C.seen C.law C.place C.faults C.rose client.old client.new }
 {
     views_stay();
     // So many calls no job makes; that a job ends is a law of `next_laws`.
@@ -73,7 +71,6 @@ pub fn reconcile<C: Client<WfContent>>(
     requires law { C.law client.old ≡ document.now }
     requires valid { HasValidWorkflows (law_of document.now) }
     ensures leaves { LeavesClient begins justified C.seen C.law C.place C.faults client.old client.new }
-    ensures still { result ≢ Err faults.Fault → FailedBy C.faults C.in_row 0 client.old client.new }
     ensures made { result ≢ Err faults.Memory → JobMade
         (law_of document.now) workflow.now (C.seen client.old) (C.lag client.old) (C.others client.old)
         result (C.seen client.new) (C.lag client.new) (C.others client.new) }
@@ -85,7 +82,7 @@ pub fn reconcile<C: Client<WfContent>>(
     ensures large { result ≡ Err faults.TooLarge →
         WouldBeTooLarge (law_of document.now) workflow.now (C.seen client.new) }
     ensures fault { result ≡ Err faults.Fault → FaultCame
-        begins justified C.seen C.law C.place C.faults C.in_row C.rose client.old client.new }
+        begins justified C.seen C.law C.place C.faults C.rose client.old client.new }
 {
     let mut job = Job::new(alloc, workflow.copy()?);
     finish(&mut job, client, document)

@@ -38,7 +38,7 @@ use Rattle.run_laws.specs.Rounds.{full_of_end, full_of_job, full_in}
 use Rattle.run_laws.specs.Fulls.{IsFullFlow, Fulls, none, full, other, RoundIsStill}
 use Rattle.run_laws.proofs.Pods.{if_open}
 use Rattle.run_laws.proofs.Filtered.{filter_chain, filter_each, filter_nothing}
-use Rattle.run_laws.proofs.StillRounds.{same_story, same_middle, not_grown, ends_on, job_on, jobs_on}
+use Rattle.run_laws.proofs.StillRounds.{same_story, same_middle, not_grown, ends_on, job_on, jobs_on, no_faults}
 
 -- ---- how a worker's job ends
 
@@ -161,8 +161,8 @@ job_names h =
 
 pub round_is_still : RoundIsStill
 round_is_still D h g names valid l d n =
-    let ns = jobs_fulls D valid h g (jobs_of h) d.calls 0 l d.ran refl n in
+    let ns = jobs_fulls D valid h g (jobs_of h) d.calls d.faults l d.ran (no_faults d.faults d.has_failed) n in
     record {
-      same = same_story g h (jobs_on D h g (jobs_of h) d.calls 0 d.ran) n;
+      same = same_story g h (jobs_on D h g (jobs_of h) d.calls d.faults d.ran) n;
       fulls = subst (λ ms. Fulls D h (submitted h) ms) (sym d.is_full) (subst (λ xs. Fulls D h xs (full_in d.ran)) (job_names h) ns);
     }

@@ -1,5 +1,6 @@
 -- Why jobs that run one after the other are the jobs of a round.
-use Rattle.std.proofs.Common.{◌≡◌, ℕ, ◌+◌, List, [], ◌∷◌, ◌++◌, append_assoc, append-nil, refl, sym, ◌∙◌, ap, ap₂, subst, arith}
+use Rattle.std.proofs.Common.{◌≡◌, ℕ, ◌+◌, ◌<◌, Bool, true, false, ◌||◌, nat_lt, List, [], ◌∷◌, ◌++◌, append_assoc, append-nil, refl, sym, ◌∙◌, ap, ap₂, arith}
+use Rattle.std.proofs.lemmas.Bool.Decides.{nat_tests}
 use Rattle.law.specs.Documents.{Text, Document}
 use Rattle.law.specs.Contents.{Story}
 use Rattle.next_step.specs.Views.{Views}
@@ -7,7 +8,7 @@ use Rattle.next_step.specs.Replies.{Reply, found, accepted, no_object, exists, c
 use Rattle.next_step.specs.Hands.{Given, for_flow, for_pod}
 use Rattle.next_step.specs.Rounds.{faults_of, WorkerEnds, by_done, by_full, by_get, by_change, JobRan, worker_ran, runner_missed, runner_rested, runner_finished, JobsRan, no_more, one_more}
 use Rattle.run_laws.specs.Whole.{Told, went, was_full, failed, was_moved, told_by, told_of_end, told_of_job, Ran}
-use Rattle.run_laws.specs.Rounds.{full_of_end, full_of_job, full_in, full_by, failures_by, JobsDone, RoundsAreDone}
+use Rattle.run_laws.specs.Rounds.{full_of_end, full_of_job, full_in, full_by, is_failed, JobsDone, RoundsAreDone}
 
 -- ---- what is told of a job's end
 
@@ -37,7 +38,7 @@ job_full D h g job calls faults (runner_missed w name r got e) = runner_full w n
 job_full D h g job calls faults (runner_rested w name r x got e n) = runner_full w name went
 job_full D h g job calls faults (runner_finished w name r s x o i got e n d) = runner_full w name (told_by s)
 
-reply_failed : (r : Reply) → failures_by (told_by r) ≡ faults_of r
+reply_failed : (r : Reply) → is_failed (told_by r) ≡ nat_lt 0 (faults_of r)
 reply_failed (found x) = refl
 reply_failed (accepted x) = refl
 reply_failed no_object = refl
@@ -45,13 +46,13 @@ reply_failed exists = refl
 reply_failed (conflict a b) = refl
 reply_failed fault = refl
 
-end_failed : (D : Document) (w : Text) (h : Story) (v : Views) (calls faults : ℕ) (g : Story) → (end : WorkerEnds D w h v calls faults g) → failures_by (told_of_end end) ≡ faults
+end_failed : (D : Document) (w : Text) (h : Story) (v : Views) (calls faults : ℕ) (g : Story) → (end : WorkerEnds D w h v calls faults g) → is_failed (told_of_end end) ≡ nat_lt 0 faults
 end_failed D w h v calls faults g (by_done e) = refl
 end_failed D w h v calls faults g (by_full x s e viewed t) = refl
 end_failed D w h v calls faults g (by_get k r e n got on) = reply_failed r
 end_failed D w h v calls faults g (by_change m s facts r i e n viewed adds d on) = reply_failed r
 
-job_failed : (D : Document) (h g : Story) (job : Given) (calls faults : ℕ) → (ran : JobRan D h job calls faults g) → failures_by (told_of_job ran) ≡ faults
+job_failed : (D : Document) (h g : Story) (job : Given) (calls faults : ℕ) → (ran : JobRan D h job calls faults g) → is_failed (told_of_job ran) ≡ nat_lt 0 faults
 job_failed D h g job calls faults (worker_ran w i j u last fail ran end) = end_failed D w i u last fail g end
 job_failed D h g job calls faults (runner_missed w name r got e) = reply_failed r
 job_failed D h g job calls faults (runner_rested w name r x got e n) = refl
@@ -83,22 +84,37 @@ then_one D h i g jobs job calls faults more fail (one_more {i = k} {job = first}
       is_faults = omega (arith, q);
     }
 
--- the same with so many failures, by an equation
-counted_so : (D : Document) (h g : Story) (jobs : List Given) (full : List Text) (m n calls : ℕ) → (e : m ≡ n) → (ran : JobsRan D h jobs calls m g) → full ≡ full_in ran → JobsDone D h jobs g full n
-counted_so D h g jobs full m n calls e ran is =
-    let both : (r : JobsRan D h jobs calls n g) × (full ≡ full_in r) = subst (λ (k : ℕ). (r : JobsRan D h jobs calls k g) × (full ≡ full_in r)) e (ran, is) in
-    record { calls = calls; ran = both.0; is_full = both.1 }
+-- ---- whether one failed
 
-one_done : (D : Document) (h i g : Story) (jobs : List Given) (job : Given) (told : Told) (full : List Text) (failures : ℕ) → JobsDone D h jobs i full failures → Ran D i job told g → JobsDone D h (jobs ++ job ∷ []) g (full ++ full_by job told) (failures + failures_by told)
-one_done D h i g jobs job told full failures a b =
-    let s = then_one D h i g jobs job a.calls failures b.calls b.faults a.ran b.ran in
-    let by : b.faults ≡ failures_by told = sym (ap failures_by b.is_told ∙ job_failed D i g job b.calls b.faults b.ran) in
-    counted_so D h g (jobs ++ job ∷ []) (full ++ full_by job told) s.fails (failures + failures_by told) s.calls
-    (s.is_faults ∙ ap (λ n. failures + n) by) s.ran
-    (ap₂ (λ xs ys. xs ++ ys) a.is_full (ap (full_by job) b.is_told ∙ sym (job_full D i g job b.calls b.faults b.ran)) ∙ sym s.is_full)
+is_some : (n : ℕ) → nat_lt 0 n ≡ true → 0 < n
+is_some n e = grind (arith, nat_tests)
+
+is_none : (n : ℕ) → nat_lt 0 n ≡ false → n ≡ 0
+is_none n e = grind (arith, nat_tests)
+
+above : (n : ℕ) → 0 < n → nat_lt 0 n ≡ true
+above n l = grind (arith, nat_tests)
+
+either_some : (a b : ℕ) → (nat_lt 0 a || nat_lt 0 b) ≡ nat_lt 0 (a + b)
+either_some a b = by (nat_lt 0 a) refl
+  where
+    by : (t : Bool) → nat_lt 0 a ≡ t → (t || nat_lt 0 b) ≡ nat_lt 0 (a + b)
+    by true e = let l = is_some a e in sym (above (a + b) (omega (arith, l)))
+    by false e = let z = is_none a e in let same : b ≡ a + b = omega (arith, z) in ap (λ n. nat_lt 0 n) same
+
+one_done : (D : Document) (h i g : Story) (jobs : List Given) (job : Given) (told : Told) (full : List Text) (failed : Bool) → JobsDone D h jobs i full failed → Ran D i job told g → JobsDone D h (jobs ++ job ∷ []) g (full ++ full_by job told) (failed || is_failed told)
+one_done D h i g jobs job told full some a b =
+    let s = then_one D h i g jobs job a.calls a.faults b.calls b.faults a.ran b.ran in
+    record {
+      calls = s.calls;
+      faults = s.fails;
+      ran = s.ran;
+      is_full = ap₂ (λ xs ys. xs ++ ys) a.is_full (ap (full_by job) b.is_told ∙ sym (job_full D i g job b.calls b.faults b.ran)) ∙ sym s.is_full;
+      has_failed = ap₂ (λ x y. x || y) a.has_failed (ap is_failed b.is_told ∙ job_failed D i g job b.calls b.faults b.ran) ∙ either_some a.faults b.faults ∙ ap (λ n. nat_lt 0 n) (sym s.is_faults);
+    }
 
 pub rounds_are_done : RoundsAreDone
 rounds_are_done = record {
-  none = λ D h. record { calls = 0; ran = no_more; is_full = refl };
+  none = λ D h. record { calls = 0; faults = 0; ran = no_more; is_full = refl; has_failed = refl };
   more = one_done;
 }

@@ -1,5 +1,6 @@
 -- What jobs in which no entry came leave: the history as it was.
-use Rattle.std.proofs.Common.{◌≡◌, ℕ, ◌+◌, List, [], ◌∷◌, ◌++◌, length, length-append, append-nil, refl, sym, ◌∙◌, ap, ap₂, arith}
+use Rattle.std.proofs.Common.{◌≡◌, ℕ, ◌+◌, nat_lt, false, List, [], ◌∷◌, ◌++◌, length, length-append, append-nil, refl, sym, ◌∙◌, ap, ap₂, arith}
+use Rattle.std.proofs.lemmas.Bool.Decides.{nat_tests}
 use Rattle.history.specs.History.{Event, Extends, grown}
 use Rattle.history.proofs.Extends.{extends_itself, extends_later}
 use Rattle.law.specs.Documents.{Text, Document}
@@ -55,3 +56,10 @@ pub jobs_on : (D : Document) (h g : Story) (jobs : List Given) (calls faults : �
 jobs_on D h g jobs calls faults no_more = extends_itself h
 jobs_on D h g jobs calls faults (one_more {i = i} {job = job} {others = others} {calls = first} {faults = fails} {more = more} {fail = fail} ran rest) =
     extends_later g i h (jobs_on D i g others more fail rest) (job_on D h i job first fails ran)
+
+-- no call failed
+pub no_faults : (n : ℕ) → false ≡ nat_lt 0 n → n ≡ 0
+no_faults n e = by (sym e)
+  where
+    by : nat_lt 0 n ≡ false → n ≡ 0
+    by q = grind (arith, nat_tests)

@@ -1,5 +1,5 @@
 -- A round in which no entry came and no call failed.
-use Rattle.std.specs.Prelude.{◌≡◌, ℕ, List, [], ◌∷◌, Some, None}
+use Rattle.std.specs.Prelude.{◌≡◌, ℕ, Bool, false, List, [], ◌∷◌, Some, None}
 use Rattle.history.specs.History.{grown}
 use Rattle.law.specs.Documents.{Text, Document}
 use Rattle.law.specs.Contents.{Flow, Story, HasFlow}
@@ -33,20 +33,20 @@ pub record StillEnd (D : Document) (h g : Story) (full : List Text) : Type 0 whe
 abbrev pub RoundIsStill : Type 0
 RoundIsStill =
     (D : Document) (h g : Story) (full : List Text) → HasValidWorkflows D → IsLawful D h →
-    JobsDone D h (jobs_of h) g full 0 → entries_in g ≡ entries_in h → StillEnd D h g full
+    JobsDone D h (jobs_of h) g full false → entries_in g ≡ entries_in h → StillEnd D h g full
 
 -- where no tick follows, the state is quiet
 abbrev pub LastRoundIsQuiet : Type 0
 LastRoundIsQuiet =
     (D : Document) (h : Story) (full : List Text) → HasValidWorkflows D → IsLawful D h →
-    JobsDone D h (jobs_of h) h full 0 → next_tick D h ≡ None → IsQuiet D h
+    JobsDone D h (jobs_of h) h full false → next_tick D h ≡ None → IsQuiet D h
 
 -- no job moves the clock, and after such a round it goes to the next tick
 pub record JobsKeepPace : Type 0 where
   pub jobs :
-      (D : Document) (h g : Story) (js : List Given) (full : List Text) (failures n : ℕ) →
-      JobsDone D h js g full failures → IsPaced D n h → IsPaced D n g
+      (D : Document) (h g : Story) (js : List Given) (full : List Text) (failed : Bool) (n : ℕ) →
+      JobsDone D h js g full failed → IsPaced D n h → IsPaced D n g
   pub tick :
       (D : Document) (h : Story) (full : List Text) (t n : ℕ) → HasValidWorkflows D → IsLawful D h →
-      JobsDone D h (jobs_of h) h full 0 → next_tick D h ≡ Some t → IsPaced D n h →
+      JobsDone D h (jobs_of h) h full false → next_tick D h ≡ Some t → IsPaced D n h →
       IsPaced D n (grown h (tick_event t))

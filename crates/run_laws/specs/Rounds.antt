@@ -1,5 +1,5 @@
--- Some jobs, one after the other: which workflows were full, and how many calls failed.
-use Rattle.std.specs.Prelude.{◌≡◌, ℕ, ◌+◌, List, [], ◌∷◌, ◌++◌}
+-- Some jobs, one after the other: which workflows were full, and whether a call failed.
+use Rattle.std.specs.Prelude.{◌≡◌, ℕ, Bool, true, false, ◌||◌, nat_lt, List, [], ◌∷◌, ◌++◌}
 use Rattle.law.specs.Documents.{Text, Document}
 use Rattle.law.specs.Contents.{Story}
 use Rattle.law.specs.Justified.{IsLawful}
@@ -40,28 +40,29 @@ abbrev pub full_by : Given → Told → List Text
 full_by (for_flow w) was_full = w ∷ []
 full_by _ _ = []
 
--- how many of the calls of a job that ends so failed
-abbrev pub failures_by : Told → ℕ
-failures_by failed = 1
-failures_by _ = 0
+abbrev pub is_failed : Told → Bool
+is_failed failed = true
+is_failed _ = false
 
 -- ---- some jobs
 
--- these jobs ran from one history to another; these workflows were full, and so many calls failed
+-- these jobs ran from one history to another; these workflows were full, and a call failed or none did
 pub record JobsDone
-    (D : Document) (h : Story) (jobs : List Given) (g : Story) (full : List Text) (failures : ℕ) : Type 0 where
+    (D : Document) (h : Story) (jobs : List Given) (g : Story) (full : List Text) (failed : Bool) : Type 0 where
   pub calls : ℕ
-  pub ran : JobsRan D h jobs calls failures g
+  pub faults : ℕ
+  pub ran : JobsRan D h jobs calls faults g
   pub is_full : full ≡ full_in ran
+  pub has_failed : failed ≡ nat_lt 0 faults
 
 pub record RoundsAreDone : Type 0 where
   -- no jobs
-  pub none : (D : Document) (h : Story) → JobsDone D h [] h [] 0
+  pub none : (D : Document) (h : Story) → JobsDone D h [] h [] false
   -- and one job more
   pub more :
       (D : Document) (h i g : Story) (jobs : List Given) (job : Given) (told : Told) (full : List Text)
-      (failures : ℕ) → JobsDone D h jobs i full failures → Ran D i job told g →
-      JobsDone D h (jobs ++ job ∷ []) g (full ++ full_by job told) (failures + failures_by told)
+      (failed : Bool) → JobsDone D h jobs i full failed → Ran D i job told g →
+      JobsDone D h (jobs ++ job ∷ []) g (full ++ full_by job told) (failed || is_failed told)
 
 -- where nobody disturbs no object has moved on
 abbrev pub NeverMoved : Type 0

@@ -1,5 +1,5 @@
 -- A schedule is followed step by step, and behind it nothing is left to be submitted.
-use Rattle.std.proofs.Common.{◌≡◌, ℕ, ◌+◌, ◌<◌, ◌≤◌, List, [], ◌∷◌, ◌++◌, length, take, map, Bool, true, false, refl, sym, ◌∙◌, ap, subst, append_assoc, append-nil, get_or, Option, Some, None, Result, Ok, Err, arith}
+use Rattle.std.proofs.Common.{◌≡◌, ℕ, suc, ◌+◌, ◌<◌, ◌≤◌, List, [], ◌∷◌, ◌++◌, length, take, map, Bool, true, false, refl, sym, ◌∙◌, ap, subst, append_assoc, append-nil, get_or, Option, Some, None, Result, Ok, Err, arith}
 use Rattle.std.specs.Prelude.{cond, is_some, if◌then◌else◌}
 use Rattle.std.proofs.Math.Seq.{take-length}
 use Rattle.tree_types.specs.declared.entry.Key.{Key}
@@ -17,13 +17,11 @@ use Rattle.lawful.specs.Manifests.{HasValidWorkflows}
 use Rattle.next_laws.specs.Playing.{IsLawfulStage, PlaysLawfully}
 use Rattle.next_step.specs.Hands.{Hand, CallNote}
 use Rattle.next_step.specs.Plays.{ScheduleStep, Stage, stage, Plays, Played, over, step}
-use Rattle.next_step.specs.Rounds.{entries_in, RunRan}
+use Rattle.next_step.specs.Rounds.{entries_in}
 use Rattle.run_laws.specs.Submissions.{submission}
-use Rattle.sim_schedule.specs.Counting.{Count, Failed, SomeFailed}
 use Rattle.sim_schedule.specs.Sweeping.{has_workflow, with_submission, with_submissions, NamesNone, Swept, SweepGives}
 use Rattle.sim_schedule.specs.declared.end.RunEnd.{RunEnd}
 use Rattle.sim_schedule.specs.declared.end.RunEnd.TheVariants.{StoreFault, TooLarge, Memory as OutOfMemory}
-use Rattle.sim_schedule.proofs.Counting.{none_failed, failed_then}
 use Rattle.sim_schedule.proofs.Listing.{map_next}
 use Rattle.wf_bundle.specs.declared.document.Schedule.{Schedule}
 use Rattle.wf_manifest.specs.declared.manifest.Manifest.{Manifest}
@@ -103,26 +101,25 @@ none_lacking (m ∷ ms) h g later =
 
 -- ---- so many steps of the schedule
 
-pub record Sofar (D : Document) (s : Schedule) (os : List SaidStep) (h : Story) (before : Count) (g : Story) (hands : List Hand) (now : Count) : Type 0 where
+pub record Sofar (D : Document) (s : Schedule) (os : List SaidStep) (h : Story) (before : ℕ) (g : Story) (hands : List Hand) (now : ℕ) : Type 0 where
   pub notes : List CallNote
   pub played : Played D (stage h (hands_of s)) (map step_of os) notes (stage g hands)
-  pub counted : Failed (failures notes) before now
+  pub few : failures notes + before ≤ now
 
-pub sofar_none : (D : Document) (s : Schedule) (h : Story) (before : Count) (hands : List Hand) → hands ≡ hands_of s → Sofar D s [] h before h hands before
+pub sofar_none : (D : Document) (s : Schedule) (h : Story) (before : ℕ) (hands : List Hand) → hands ≡ hands_of s → Sofar D s [] h before h hands before
 sofar_none D s h before hands is =
-    subst (λ hs. Sofar D s [] h before h hs before) (sym is) record { notes = []; played = over; counted = none_failed before }
+    subst (λ hs. Sofar D s [] h before h hs before) (sym is) record { notes = []; played = over; few = omega arith }
 
-pub sofar_next : (D : Document) (s : Schedule) (os : List SaidStep) (h : Story) (before : Count) (g : Story) (hands : List Hand) (now : Count) (i : ℕ) (o : SaidStep) (k : Story) (hands_now : List Hand) (later : Count) → i < length os → o ≡ get_or os i o → Sofar D s (take i os) h before g hands now → StepPlayed D (step_of o) (stage g hands) now (stage k hands_now) later → Sofar D s (take (i + 1) os) h before k hands_now later
+pub sofar_next : (D : Document) (s : Schedule) (os : List SaidStep) (h : Story) (before : ℕ) (g : Story) (hands : List Hand) (now i : ℕ) (o : SaidStep) (k : Story) (hands_now : List Hand) (later : ℕ) → i < length os → o ≡ get_or os i o → Sofar D s (take i os) h before g hands now → StepPlayed D (step_of o) (stage g hands) now (stage k hands_now) later → Sofar D s (take (i + 1) os) h before k hands_now later
 sofar_next D s os h before g hands now i o k hands_now later below is a b = record {
   notes = a.notes ++ b.notes;
   played = subst (λ ss. Played D (stage h (hands_of s)) ss (a.notes ++ b.notes) (stage k hands_now)) (sym (map_next os i o below is step_of))
       (played_then D (stage h (hands_of s)) (stage g hands) (stage k hands_now) (map step_of (take i os)) a.notes b.notes (step_of o) a.played b.plays);
-  counted = subst (λ n. Failed n before later) (sym (failures_then a.notes b.notes))
-      (failed_then (failures a.notes) (failures b.notes) before now later a.counted b.counted);
+  few = let both = failures_then a.notes b.notes in let first = a.few in let second = b.few in omega (arith, both, first, second);
 }
 
 -- all of them
-pub sofar_all : (D : Document) (s : Schedule) (h : Story) (before : Count) (g : Story) (hands : List Hand) (now : Count) (i : ℕ) → length s.steps ≤ i → i ≤ length s.steps → Sofar D s (take i s.steps) h before g hands now → Followed D s h before g now
+pub sofar_all : (D : Document) (s : Schedule) (h : Story) (before : ℕ) (g : Story) (hands : List Hand) (now i : ℕ) → length s.steps ≤ i → i ≤ length s.steps → Sofar D s (take i s.steps) h before g hands now → Followed D s h before g now
 sofar_all D s h before g hands now i above below a =
     let at_end : i ≡ length s.steps = omega (arith, above, below) in
     let is : take i s.steps ≡ s.steps = ap (λ k. take k s.steps) at_end ∙ take-length s.steps in
@@ -130,50 +127,38 @@ sofar_all D s h before g hands now i above below a =
       notes = a.notes;
       hands = hands;
       played = subst (λ (os : List SaidStep). Played D (stage h (hands_of s)) (map step_of os) a.notes (stage g hands)) is a.played;
-      counted = a.counted;
+      few = a.few;
     }
 
--- the calls so far that failed
-pub sofar_some : (D : Document) (s : Schedule) (os : List SaidStep) (h : Story) (before : Count) (g : Story) (hands : List Hand) (now : Count) → Sofar D s os h before g hands now → SomeFailed before now
-sofar_some D s os h before g hands now a = (failures a.notes, a.counted)
-
 -- at each stage the history is lawful, and the hands have read what stood in it
-pub sofar_lawful : PlaysLawfully → (D : Document) (s : Schedule) (os : List SaidStep) (h : Story) (before : Count) (g : Story) (hands : List Hand) (now : Count) → HasValidWorkflows D → IsLawful D h → Sofar D s os h before g hands now → IsLawfulStage D (stage g hands)
+pub sofar_lawful : PlaysLawfully → (D : Document) (s : Schedule) (os : List SaidStep) (h : Story) (before : ℕ) (g : Story) (hands : List Hand) (now : ℕ) → HasValidWorkflows D → IsLawful D h → Sofar D s os h before g hands now → IsLawfulStage D (stage g hands)
 sofar_lawful law D s os h before g hands now valid lawful a =
     law.plays D (stage h (hands_of s)) (stage g hands) (map step_of os) a.notes valid (law.begin D h s.workers lawful) a.played
 
 -- ---- the whole run
 
-pub simulated_by : (D : Document) (s : Schedule) (h first mid g : Story) (before begun ended after : Count) → SomeFailed before begun → first ≡ with_submissions h D.workflows → Extends mid first → Followed D s first begun mid ended → (full : List Text) → Swept D mid ended g after full → Simulated D s h before g after full
-simulated_by D s h first mid g before begun ended after refused is later f full swept =
+pub simulated_by : (D : Document) (s : Schedule) (h mid_begun mid g : Story) (before begun_faults followed_faults after : ℕ) → before ≤ begun_faults → followed_faults ≤ after → mid_begun ≡ with_submissions h D.workflows → Extends mid mid_begun → Followed D s mid_begun begun_faults mid followed_faults → (full : List Text) → Swept D mid g full → Simulated D s h before g after full
+simulated_by D s h first mid g before begun_faults followed_faults after up_first up_last is later f full swept =
     let same : with_submissions mid D.workflows ≡ mid = none_lacking D.workflows h mid (subst (Extends mid) is later) in
+    let few : failures f.notes + begun_faults ≤ followed_faults = f.few in
     record {
-      refused = refused.0;
-      submitted = begun;
-      submits = refused.1;
       end = mid;
-      ended = ended;
-      followed = subst (λ k. Followed D s k begun mid ended) is f;
-      again = swept.refused;
-      rounds = swept.rounds;
-      faults = swept.faults;
-      ran = subst (λ k. RunRan D k swept.rounds swept.faults g) same swept.ran;
-      counted = swept.counted;
+      followed = subst (λ k. Followed D s k before mid after) is record { notes = f.notes; hands = f.hands; played = f.played; few = omega (arith, few, up_first, up_last) };
       later = subst (Extends g) same swept.later;
       paced = subst (λ k. IsPaced D (entries_in k) g) same swept.paced;
       over = swept.over;
     }
 
-pub simulation_gives : (D : Document) (s : Schedule) (h first mid g : Story) (before begun ended after : Count) → SomeFailed before begun → first ≡ with_submissions h D.workflows → Extends mid first → Followed D s first begun mid ended → (r : Result Unit RunEnd) → SweepGives D mid ended r g after → SimulationGives D s h before r g after
-simulation_gives D s h first mid g before begun ended after refused is later followed (Ok x) swept =
-    simulated_by D s h first mid g before begun ended after refused is later followed [] swept
-simulation_gives D s h first mid g before begun ended after refused is later followed (Err (TooLarge full)) swept =
-    (simulated_by D s h first mid g before begun ended after refused is later followed full swept.0, swept.1)
-simulation_gives D s h first mid g before begun ended after refused is later followed (Err StoreFault) swept = tt
-simulation_gives D s h first mid g before begun ended after refused is later followed (Err OutOfMemory) swept = tt
+pub simulation_gives : (D : Document) (s : Schedule) (h first mid g : Story) (before begun_faults followed_faults after : ℕ) → before ≤ begun_faults → followed_faults ≤ after → first ≡ with_submissions h D.workflows → Extends mid first → Followed D s first begun_faults mid followed_faults → (r : Result Unit RunEnd) → SweepGives D mid r g → SimulationGives D s h before r g after
+simulation_gives D s h first mid g before b f after up_first up_last is later followed (Ok x) swept =
+    simulated_by D s h first mid g before b f after up_first up_last is later followed [] swept
+simulation_gives D s h first mid g before b f after up_first up_last is later followed (Err (TooLarge full)) swept =
+    (simulated_by D s h first mid g before b f after up_first up_last is later followed full swept.0, swept.1)
+simulation_gives D s h first mid g before b f after up_first up_last is later followed (Err StoreFault) swept = tt
+simulation_gives D s h first mid g before b f after up_first up_last is later followed (Err OutOfMemory) swept = tt
 
 -- before the sweep
-pub early : (D : Document) (s : Schedule) (h g : Story) (before after : Count) (r : Result Unit RunEnd) (e : RunEnd) → r ≡ Err e → NamesNone (let x : Result Unit RunEnd = Err e in x) → SimulationGives D s h before r g after
+pub early : (D : Document) (s : Schedule) (h g : Story) (before after : ℕ) (r : Result Unit RunEnd) (e : RunEnd) → r ≡ Err e → NamesNone (let x : Result Unit RunEnd = Err e in x) → SimulationGives D s h before r g after
 early D s h g before after r (TooLarge full) is none = absurd none
 early D s h g before after r StoreFault is none = subst (λ x. SimulationGives D s h before x g after) (sym is) tt
 early D s h g before after r OutOfMemory is none = subst (λ x. SimulationGives D s h before x g after) (sym is) tt

@@ -1,5 +1,4 @@
 pub mod AtRest
-pub mod Counting
 pub mod Doing
 pub mod Dues
 pub mod Ends
@@ -7,10 +6,8 @@ pub mod Following
 pub mod Later
 pub mod Lifting
 pub mod Listing
-pub mod OneCall
 pub mod Plays
 pub mod Rosters
 pub mod Running
 pub mod Submitting
 pub mod Through
-pub mod Turning

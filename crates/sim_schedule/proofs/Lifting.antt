@@ -1,6 +1,5 @@
 -- A step of a worker that has one job is a step of a hand with other jobs behind that one.
-use Rattle.std.proofs.Common.{◌≡◌, ℕ, ◌+◌, List, [], ◌∷◌, ◌++◌, map, Bool, true, false, refl, sym, ◌∙◌, ap, subst, Option, Some, None, Result, Ok, Err}
-use Rattle.std.specs.Prelude.{◌≢◌}
+use Rattle.std.proofs.Common.{◌≡◌, ℕ, ◌+◌, ◌<◌, ◌≤◌, List, [], ◌∷◌, ◌++◌, map, Bool, true, false, refl, sym, ◌∙◌, ap, subst, Option, Some, None, Result, Ok, Err, arith}
 use Rattle.history.specs.Versions.{lag_after}
 use Rattle.law.specs.Documents.{Text, Document}
 use Rattle.law.specs.Contents.{PodObject, Story}
@@ -19,11 +18,9 @@ use Rattle.reconcile_core.specs.Answers.{of_refusal, of_call}
 use Rattle.reconcile_core.specs.Steps.{Tells, StepMade}
 use Rattle.reconcile_core.specs.Workers.{Working, hand_of}
 use Rattle.reconcile_core.proofs.Alone.{same_at}
-use Rattle.sim_schedule.specs.Counting.{Count, Failed}
 use Rattle.sim_schedule.specs.Simulating.{failed, failures}
 use Rattle.sim_schedule.specs.Inside.Hands.{HasOne, hand_with, is_called}
-use Rattle.sim_schedule.specs.Inside.Steps.{HandMoved, HandMoves, OneAtMost}
-use Rattle.sim_schedule.proofs.OneCall.{was_none, was_one}
+use Rattle.sim_schedule.specs.Inside.Steps.{HandMoved, HandMoves}
 
 pub first_same : {A : Type 0} (x y : A) (xs ys : List A) → x ∷ xs ≡ y ∷ ys → x ≡ y
 first_same x y xs ys e = cc
@@ -40,13 +37,13 @@ left rest true b = hand_with b rest
 left rest false b = fresh_hand rest b.lag
 
 -- what a call answered, by whether it failed
-pub counted_by : (r : Reply) (before after : Count) → (r ≢ fault → Failed 0 before after) → (r ≡ fault → Failed 1 before after) → Failed (failed (answer_of r) + 0) before after
-counted_by (found x) before after still rose = still (λ e. cc)
-counted_by (accepted x) before after still rose = still (λ e. cc)
-counted_by no_object before after still rose = still (λ e. cc)
-counted_by exists before after still rose = still (λ e. cc)
-counted_by (conflict expected there) before after still rose = still (λ e. cc)
-counted_by fault before after still rose = rose refl
+pub few_by : (r : Reply) (before after : ℕ) → before ≤ after → (r ≡ fault → before < after) → (failed (answer_of r) + 0) + before ≤ after
+few_by (found x) before after up rose = omega (arith, up)
+few_by (accepted x) before after up rose = omega (arith, up)
+few_by no_object before after up rose = omega (arith, up)
+few_by exists before after up rose = omega (arith, up)
+few_by (conflict expected there) before after up rose = omega (arith, up)
+few_by fault before after up rose = let more : before < after = rose refl in omega (arith, more)
 
 -- ---- a worker
 
@@ -57,19 +54,6 @@ refused_so no_object = refl
 refused_so exists = refl
 refused_so (conflict expected there) = refl
 refused_so fault = refl
-
-refused_by : (r : Reply) → of_refusal r ≡ Err faults.Fault → r ≡ fault
-refused_by (found x) e = absurd cc
-refused_by (accepted x) e = absurd cc
-refused_by no_object e = absurd cc
-refused_by exists e = absurd cc
-refused_by (conflict expected there) e = absurd cc
-refused_by fault e = refl
-
--- a job is given up for a call that failed
-call_failed : (j : Job) (r : Reply) → of_call j r ≡ Err faults.Fault → r ≡ fault
-call_failed (goes_on u) r e = absurd cc
-call_failed (ended x) r e = refused_by r e
 
 module _ (x : Given) (rest : List Given) where
   job_left : (j : Job) (reply : Reply) (lag : ℕ) → with_job j (x ∷ rest) rest lag ≡ left rest (is_called (of_call j reply)) (with_job j (x ∷ []) [] lag)
@@ -129,20 +113,18 @@ module _ (x : Given) (rest : List Given) where
     kept notes g b (finishes w name others y o reply k e q n did) r told on = absurd told
     kept notes g b (ends w name others y e q n) r told on = absurd told
 
-    module _ (before now : Count) where
-      counted : (notes : List CallNote) (g : Story) (b : Hand) (s : Stepped D h i one notes g b) (r : Result StepDone ReconcileFault) → Tells s r → (r ≢ Err faults.Fault → Failed 0 before now) → (r ≡ Err faults.Fault → Failed 1 before now) → Failed (failures notes) before now
-      counted notes g b (has_none e) r told still rose = absurd (not_none x [] e)
-      counted notes g b (gets w others k reply e next got) r told still rose =
-          counted_by reply before now (λ other. still (λ is. other (call_failed (after v (get k) reply) reply (sym told ∙ is))))
-          (λ is. rose (told ∙ ap (λ y. of_call (after v (get k) y) y) is))
-      counted notes g b (changes w others m s facts reply k e next viewed adds did) r told still rose =
-          counted_by reply before now (λ other. still (λ is. other (call_failed (after v (act m) reply) reply (sym told ∙ is))))
-          (λ is. rose (told ∙ ap (λ y. of_call (after v (act m) y) y) is))
-      counted notes g b (is_full w others f s e next viewed large) r told still rose = still (λ is. let t = sym told ∙ is in cc)
-      counted notes g b (is_done w others e next) r told still rose = still (λ is. let t = sym told ∙ is in cc)
-      counted notes g b (gets_pod w name others reply e n got) r told still rose = absurd told
-      counted notes g b (finishes w name others y o reply k e q n did) r told still rose = absurd told
-      counted notes g b (ends w name others y e q n) r told still rose = absurd told
+    module _ (before after_faults : ℕ) (up : before ≤ after_faults) where
+      few : (notes : List CallNote) (g : Story) (b : Hand) (s : Stepped D h i one notes g b) (r : Result StepDone ReconcileFault) → Tells s r → (r ≡ Err faults.Fault → before < after_faults) → failures notes + before ≤ after_faults
+      few notes g b (has_none e) r told rose = omega (arith, up)
+      few notes g b (gets w others k reply e next got) r told rose =
+          few_by reply before after_faults up (λ is. rose (told ∙ ap (λ y. of_call (after v (get k) y) y) is))
+      few notes g b (changes w others m s facts reply k e next viewed adds did) r told rose =
+          few_by reply before after_faults up (λ is. rose (told ∙ ap (λ y. of_call (after v (act m) y) y) is))
+      few notes g b (is_full w others f s e next viewed large) r told rose = omega (arith, up)
+      few notes g b (is_done w others e next) r told rose = omega (arith, up)
+      few notes g b (gets_pod w name others reply e n got) r told rose = absurd told
+      few notes g b (finishes w name others y o reply k e q n did) r told rose = absurd told
+      few notes g b (ends w name others y e q n) r told rose = absurd told
 
 -- ---- through a client that nobody disturbs
 
@@ -158,15 +140,15 @@ module _ (D : Document) (h : Story) (v : Views) (lag : ℕ) (r : Result StepDone
   abbrev Made : ℕ → List Text → Type 0
   Made i js = StepMade D i h (worker_hand js v lag) 0 r g (hand_of lag_now u) 0
 
-  one_moved : (before now : Count) → (r ≢ Err faults.Fault → Failed 0 before now) → (r ≡ Err faults.Fault → Failed 1 before now) → (rest : List Given) (i : ℕ) (w : Text) → Made i (w ∷ []) → HandMoved D h (hand_with (worker_hand (w ∷ []) v lag) rest) before g (left rest (is_called r) (hand_of lag_now u)) now i
-  one_moved before now still rose rest i w made =
+  one_moved : (before now : ℕ) → before ≤ now → (r ≡ Err faults.Fault → before < now) → (rest : List Given) (i : ℕ) (w : Text) → Made i (w ∷ []) → HandMoved D h (hand_with (worker_hand (w ∷ []) v lag) rest) before g (left rest (is_called r) (hand_of lag_now u)) now i
+  one_moved before now up rose rest i w made =
       let b = hand_of lag_now u in
       let all : Hand = record { jobs = for_flow w ∷ rest; views = v; pod = None; lag = lag } in
       record {
         notes = made.notes;
         stepped = subst (λ k. Stepped D k i all made.notes g (left rest (is_called r) b)) (same_at made.at h 0 made.later made.others)
             (lifted (for_flow w) rest D made.at i v None lag made.notes g b made.stepped r made.answer);
-        counted = counted (for_flow w) rest D made.at i v None lag before now made.notes g b made.stepped r made.answer still rose;
+        few = few (for_flow w) rest D made.at i v None lag before now up made.notes g b made.stepped r made.answer rose;
       }
 
   one_kept : (i : ℕ) (w : Text) → Made i (w ∷ []) → is_called r ≡ true → HasOne u
@@ -175,18 +157,10 @@ module _ (D : Document) (h : Story) (v : Views) (lag : ℕ) (r : Result StepDone
       record { job = o.0; only = o.1 }
 
   -- the step of the one job of a worker
-  pub worker_moved : (jobs : List Text) (job : Text) → jobs ≡ job ∷ [] → ((i : ℕ) → Made i jobs) → (before now : Count) → (r ≢ Err faults.Fault → Failed 0 before now) → (r ≡ Err faults.Fault → Failed 1 before now) → (rest : List Given) → HandMoves D h (hand_with (worker_hand jobs v lag) rest) before g (left rest (is_called r) (hand_of lag_now u)) now
-  worker_moved jobs job only made before now still rose rest i =
+  pub worker_moved : (jobs : List Text) (job : Text) → jobs ≡ job ∷ [] → ((i : ℕ) → Made i jobs) → (before now : ℕ) → before ≤ now → (r ≡ Err faults.Fault → before < now) → (rest : List Given) → HandMoves D h (hand_with (worker_hand jobs v lag) rest) before g (left rest (is_called r) (hand_of lag_now u)) now
+  worker_moved jobs job only made before now up rose rest i =
       subst (λ js. HandMoved D h (hand_with (worker_hand js v lag) rest) before g (left rest (is_called r) (hand_of lag_now u)) now i) (sym only)
-      (one_moved before now still rose rest i job (subst (Made i) only (made i)))
+      (one_moved before now up rose rest i job (subst (Made i) only (made i)))
 
   pub worker_kept : (jobs : List Text) (job : Text) → jobs ≡ job ∷ [] → ((i : ℕ) → Made i jobs) → is_called r ≡ true → HasOne u
   worker_kept jobs job only made on = one_kept 0 job (subst (Made 0) only (made 0)) on
-
--- whichever its answer, its call failed or did not
-pub worker_called : (r : Result StepDone ReconcileFault) (before now : Count) → (r ≢ Err faults.Fault → Failed 0 before now) → (r ≡ Err faults.Fault → Failed 1 before now) → OneAtMost before now
-worker_called (Ok x) before now still rose = was_none before now (still (λ e. cc))
-worker_called (Err (faults.Conflict expected there)) before now still rose = was_none before now (still (λ e. cc))
-worker_called (Err faults.Fault) before now still rose = was_one before now (rose refl)
-worker_called (Err faults.TooLarge) before now still rose = was_none before now (still (λ e. cc))
-worker_called (Err faults.Memory) before now still rose = was_none before now (still (λ e. cc))

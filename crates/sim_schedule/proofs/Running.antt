@@ -1,6 +1,5 @@
 -- A step of a runner that has one job is a step of a hand with other jobs behind that one.
-use Rattle.std.proofs.Common.{◌≡◌, ℕ, List, [], ◌∷◌, ◌++◌, map, Bool, true, false, refl, sym, ◌∙◌, ap, subst, Option, Some, None, Result, Ok, Err}
-use Rattle.std.specs.Prelude.{◌≢◌}
+use Rattle.std.proofs.Common.{◌≡◌, ℕ, ◌+◌, ◌<◌, ◌≤◌, List, [], ◌∷◌, ◌++◌, map, Bool, true, false, refl, sym, ◌∙◌, ap, subst, Option, Some, None, Result, Ok, Err, arith}
 use Rattle.law.specs.Documents.{Document}
 use Rattle.law.specs.Contents.{PodObject, Story, pod_in}
 use Rattle.next_step.specs.Views.{Seen, Views, nothing}
@@ -15,12 +14,10 @@ use Rattle.pod_runner.specs.declared.runner.PodJob.{PodJob}
 use Rattle.pod_runner.specs.Running.{Running, given, hand_of}
 use Rattle.pod_runner.specs.Steps.{of_refusal, of_pod, of_read, of_write, of_end, Tells, StepMade}
 use Rattle.reconcile_core.proofs.Alone.{same_at}
-use Rattle.sim_schedule.specs.Counting.{Count, Failed}
 use Rattle.sim_schedule.specs.Simulating.{failures}
 use Rattle.sim_schedule.specs.Inside.Hands.{HasOnePod, hand_with, is_running}
-use Rattle.sim_schedule.specs.Inside.Steps.{HandMoved, HandMoves, OneAtMost}
-use Rattle.sim_schedule.proofs.OneCall.{was_none, was_one}
-use Rattle.sim_schedule.proofs.Lifting.{first_same, rest_same, not_none, left, counted_by}
+use Rattle.sim_schedule.specs.Inside.Steps.{HandMoved, HandMoves}
+use Rattle.sim_schedule.proofs.Lifting.{first_same, rest_same, not_none, left, few_by}
 
 refused_so : (r : Reply) → is_running (of_refusal r) ≡ false
 refused_so (found x) = refl
@@ -44,42 +41,6 @@ ended_so (finish o) = refl
 ended_so already_finished = refl
 ended_so no_outcome = refl
 ended_so (not_due tick) = refl
-
-refused_by : (r : Reply) → of_refusal r ≡ Err faults.Fault → r ≡ fault
-refused_by (found x) e = absurd cc
-refused_by (accepted x) e = absurd cc
-refused_by no_object e = absurd cc
-refused_by exists e = absurd cc
-refused_by (conflict expected there) e = absurd cc
-refused_by fault e = refl
-
-no_pod_failed : (o : Option PodObject) → of_pod o ≡ Err faults.Fault → ⊥
-no_pod_failed None e = cc
-no_pod_failed (Some pod) e = cc
-
--- a job is given up for a call that failed
-read_failed : (r : Reply) → of_read r ≡ Err faults.Fault → r ≡ fault
-read_failed (found x) e = absurd (no_pod_failed (pod_in (Some x.content)) e)
-read_failed (accepted x) e = refused_by (accepted x) e
-read_failed no_object e = refused_by no_object e
-read_failed exists e = refused_by exists e
-read_failed (conflict expected there) e = refused_by (conflict expected there) e
-read_failed fault e = refl
-
-write_failed : (r : Reply) → of_write r ≡ Err faults.Fault → r ≡ fault
-write_failed (found x) e = refused_by (found x) e
-write_failed (accepted x) e = absurd cc
-write_failed no_object e = refused_by no_object e
-write_failed exists e = refused_by exists e
-write_failed (conflict expected there) e = refused_by (conflict expected there) e
-write_failed fault e = refl
-
-end_not_failed : (n : RunNext) → of_end n ≡ Err faults.Fault → ⊥
-end_not_failed read e = cc
-end_not_failed (finish o) e = cc
-end_not_failed already_finished e = cc
-end_not_failed no_outcome e = cc
-end_not_failed (not_due tick) e = cc
 
 module _ (x : Given) (rest : List Given) where
   pod_left : (n tick : ℕ) (o : Option PodObject) → with_pod n tick o (x ∷ rest) rest 0 ≡ left rest (is_running (of_pod o)) (with_pod n tick o (x ∷ []) [] 0)
@@ -147,19 +108,16 @@ module _ (x : Given) (rest : List Given) where
     kept notes g b (is_full w others f s e next viewed large) r told on = absurd told
     kept notes g b (is_done w others e next) r told on = absurd told
 
-    module _ (before now : Count) where
-      counted : (notes : List CallNote) (g : Story) (b : Hand) (s : Stepped D h i one notes g b) (r : Result RunDone RunFault) → Tells s r → (r ≢ Err faults.Fault → Failed 0 before now) → (r ≡ Err faults.Fault → Failed 1 before now) → Failed (failures notes) before now
-      counted notes g b (has_none e) r told still rose = absurd (not_none x [] e)
-      counted notes g b (gets_pod w name others reply e none_read got) r told still rose =
-          counted_by reply before now (λ other. still (λ is. other (read_failed reply (sym told ∙ is)))) (λ is. rose (told ∙ ap of_read is))
-      counted notes g b (finishes w name others y o reply k e q next did) r told still rose =
-          counted_by reply before now (λ other. still (λ is. other (write_failed reply (sym told ∙ is)))) (λ is. rose (told ∙ ap of_write is))
-      counted notes g b (ends w name others y e q next) r told still rose =
-          still (λ is. end_not_failed (runner_next D w name (Some y)) (sym told ∙ is))
-      counted notes g b (gets w others k reply e next got) r told still rose = absurd told
-      counted notes g b (changes w others m s facts reply k e next viewed adds did) r told still rose = absurd told
-      counted notes g b (is_full w others f s e next viewed large) r told still rose = absurd told
-      counted notes g b (is_done w others e next) r told still rose = absurd told
+    module _ (before now : ℕ) (up : before ≤ now) where
+      few : (notes : List CallNote) (g : Story) (b : Hand) (s : Stepped D h i one notes g b) (r : Result RunDone RunFault) → Tells s r → (r ≡ Err faults.Fault → before < now) → failures notes + before ≤ now
+      few notes g b (has_none e) r told rose = omega (arith, up)
+      few notes g b (gets_pod w name others reply e none_read got) r told rose = few_by reply before now up (λ is. rose (told ∙ ap of_read is))
+      few notes g b (finishes w name others y o reply k e q next did) r told rose = few_by reply before now up (λ is. rose (told ∙ ap of_write is))
+      few notes g b (ends w name others y e q next) r told rose = omega (arith, up)
+      few notes g b (gets w others k reply e next got) r told rose = absurd told
+      few notes g b (changes w others m s facts reply k e next viewed adds did) r told rose = absurd told
+      few notes g b (is_full w others f s e next viewed large) r told rose = absurd told
+      few notes g b (is_done w others e next) r told rose = absurd told
 
 -- ---- through a client that nobody disturbs
 
@@ -175,15 +133,15 @@ module _ (D : Document) (h : Story) (pod : Option (Seen PodObject)) (lag : ℕ) 
   abbrev Made : ℕ → List PodJob → Type 0
   Made i js = StepMade D i h (runner_hand js pod lag) 0 r g (hand_of lag_now u) 0
 
-  one_moved : (before now : Count) → (r ≢ Err faults.Fault → Failed 0 before now) → (r ≡ Err faults.Fault → Failed 1 before now) → (rest : List Given) (i : ℕ) (job : PodJob) → Made i (job ∷ []) → HandMoved D h (hand_with (runner_hand (job ∷ []) pod lag) rest) before g (left rest (is_running r) (hand_of lag_now u)) now i
-  one_moved before now still rose rest i job made =
+  one_moved : (before now : ℕ) → before ≤ now → (r ≡ Err faults.Fault → before < now) → (rest : List Given) (i : ℕ) (job : PodJob) → Made i (job ∷ []) → HandMoved D h (hand_with (runner_hand (job ∷ []) pod lag) rest) before g (left rest (is_running r) (hand_of lag_now u)) now i
+  one_moved before now up rose rest i job made =
       let b = hand_of lag_now u in
       let all : Hand = record { jobs = given job ∷ rest; views = nothing; pod = pod; lag = lag } in
       record {
         notes = made.notes;
         stepped = subst (λ k. Stepped D k i all made.notes g (left rest (is_running r) b)) (same_at made.at h 0 made.later made.others)
             (lifted (given job) rest D made.at i nothing pod lag made.notes g b made.stepped r made.answer);
-        counted = counted (given job) rest D made.at i nothing pod lag before now made.notes g b made.stepped r made.answer still rose;
+        few = few (given job) rest D made.at i nothing pod lag before now up made.notes g b made.stepped r made.answer rose;
       }
 
   one_kept : (i : ℕ) (job : PodJob) → Made i (job ∷ []) → is_running r ≡ true → HasOnePod u
@@ -192,17 +150,10 @@ module _ (D : Document) (h : Story) (pod : Option (Seen PodObject)) (lag : ℕ) 
       record { job = o.0; only = o.1 }
 
   -- the step of the one job of a runner
-  pub runner_moved : (jobs : List PodJob) (job : PodJob) → jobs ≡ job ∷ [] → ((i : ℕ) → Made i jobs) → (before now : Count) → (r ≢ Err faults.Fault → Failed 0 before now) → (r ≡ Err faults.Fault → Failed 1 before now) → (rest : List Given) → HandMoves D h (hand_with (runner_hand jobs pod lag) rest) before g (left rest (is_running r) (hand_of lag_now u)) now
-  runner_moved jobs job only made before now still rose rest i =
+  pub runner_moved : (jobs : List PodJob) (job : PodJob) → jobs ≡ job ∷ [] → ((i : ℕ) → Made i jobs) → (before now : ℕ) → before ≤ now → (r ≡ Err faults.Fault → before < now) → (rest : List Given) → HandMoves D h (hand_with (runner_hand jobs pod lag) rest) before g (left rest (is_running r) (hand_of lag_now u)) now
+  runner_moved jobs job only made before now up rose rest i =
       subst (λ js. HandMoved D h (hand_with (runner_hand js pod lag) rest) before g (left rest (is_running r) (hand_of lag_now u)) now i) (sym only)
-      (one_moved before now still rose rest i job (subst (Made i) only (made i)))
+      (one_moved before now up rose rest i job (subst (Made i) only (made i)))
 
   pub runner_kept : (jobs : List PodJob) (job : PodJob) → jobs ≡ job ∷ [] → ((i : ℕ) → Made i jobs) → is_running r ≡ true → HasOnePod u
   runner_kept jobs job only made on = one_kept 0 job (subst (Made 0) only (made 0)) on
-
--- whichever its answer, its call failed or did not
-pub runner_called : (r : Result RunDone RunFault) (before now : Count) → (r ≢ Err faults.Fault → Failed 0 before now) → (r ≡ Err faults.Fault → Failed 1 before now) → OneAtMost before now
-runner_called (Ok x) before now still rose = was_none before now (still (λ e. cc))
-runner_called (Err (faults.Conflict expected there)) before now still rose = was_none before now (still (λ e. cc))
-runner_called (Err faults.Fault) before now still rose = was_one before now (rose refl)
-runner_called (Err faults.Memory) before now still rose = was_none before now (still (λ e. cc))

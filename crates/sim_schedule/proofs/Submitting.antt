@@ -14,9 +14,9 @@ use Rattle.law.specs.Documents.{Text, Document}
 use Rattle.law.specs.Due.{IsPaced}
 use Rattle.lawful.specs.Manifests.{HasValidWorkflows}
 use Rattle.next_step.specs.Ticks.{next_tick}
-use Rattle.next_step.specs.Rounds.{jobs_of, entries_in, RunRan}
+use Rattle.next_step.specs.Rounds.{jobs_of, entries_in}
 use Rattle.run_laws.specs.Rounds.{JobsDone}
-use Rattle.run_laws.specs.Fulls.{JobsKeepPace}
+use Rattle.run_laws.specs.Fulls.{JobsKeepPace, RoundIsStill}
 use Rattle.next_laws.specs.Ends.{RunsKeepPace}
 use Rattle.law.specs.Contents.{Content, OfWorkflow, flow, apply, Story}
 use Rattle.law.specs.Justified.{IsLawful, Justified}
@@ -26,10 +26,8 @@ use Rattle.wf_bundle.specs.declared.document.Document.{Document as Read}
 use Rattle.wf_object.specs.Documents.{law_of}
 use Rattle.wf_object.specs.Kept.{begins, justified}
 use Rattle.run_laws.specs.Submissions.{submission}
-use Rattle.sim_schedule.specs.Counting.{Count, Failed, SomeFailed}
-use Rattle.sim_schedule.specs.Sweeping.{GoesOn, KeepsPace, with_submission, with_submissions, Swept, SweepGives}
-use Rattle.sim_schedule.specs.Inside.Turns.{NextTurn, LastTurn, EndGives}
-use Rattle.sim_schedule.proofs.Counting.{failed_then}
+use Rattle.sim_schedule.specs.Sweeping.{GoesOn, KeepsPace, NamesNone, with_submission, with_submissions, IsOver, Swept, SweepGives}
+use Rattle.sim_schedule.specs.Inside.Turns.{EndGives}
 use Rattle.sim_schedule.specs.declared.end.RunEnd.{RunEnd}
 use Rattle.sim_schedule.specs.declared.end.RunEnd.TheVariants.{StoreFault, TooLarge, Memory as OutOfMemory}
 
@@ -73,7 +71,7 @@ module _ (D : Document) (h g : Story) (t clock : ℕ) (at : clock ≡ clock_of h
   }
   ticked_on (Err e) gives adds = stays D h g adds
 
-  pub ticked_pace : (law : JobsKeepPace) (full : List Text) → HasValidWorkflows D → next_tick D h ≡ Some t → IsLawful D h → JobsDone D h (jobs_of h) h full 0 → (r : Result Unit StoreRefused) → Adds h (event (Tick t) None) r g → KeepsPace D h g
+  pub ticked_pace : (law : JobsKeepPace) (full : List Text) → HasValidWorkflows D → next_tick D h ≡ Some t → IsLawful D h → JobsDone D h (jobs_of h) h full false → (r : Result Unit StoreRefused) → Adds h (event (Tick t) None) r g → KeepsPace D h g
   ticked_pace law full valid next l done (Ok x) adds n paced = subst (IsPaced D n) (sym adds) (law.tick D h full t n valid l done next paced)
   ticked_pace law full valid next l done (Err e) adds n paced = subst (IsPaced D n) (sym adds) paced
 
@@ -99,77 +97,51 @@ one_submitted start old new ms i m below is before e =
     let split : drop i ms ≡ m ∷ drop (suc i) ms = drop-cons ms i m below ∙ ap (λ (x : Manifest). x ∷ drop (suc i) ms) (sym is) in
     rw add-one (ap (λ h. with_submissions h (drop (suc i) ms)) e ∙ ap (with_submissions old) (sym split) ∙ before)
 
+-- ---- after a round
+
+-- where no entry came and no call failed, the round is one of the history as it is
+pub still_done : RoundIsStill → (D : Document) (h g : Story) (full : List Text) (failed : Bool) → HasValidWorkflows D → IsLawful D h → JobsDone D h (jobs_of h) g full failed → failed ≡ false → entries_in g ≡ entries_in h → JobsDone D g (jobs_of g) g full false
+still_done law D h g full failed valid lawful done none same =
+    let clean : JobsDone D h (jobs_of h) g full false = subst (JobsDone D h (jobs_of h) g full) none done in
+    let end = law D h g full valid lawful clean same in
+    subst (λ k. JobsDone D k (jobs_of k) g full false) (sym end.same) clean
+
+pub still_same : RoundIsStill → (D : Document) (h g : Story) (full : List Text) (failed : Bool) → HasValidWorkflows D → IsLawful D h → JobsDone D h (jobs_of h) g full failed → failed ≡ false → entries_in g ≡ entries_in h → g ≡ h
+still_same law D h g full failed valid lawful done none entries =
+    let end = law D h g full valid lawful (subst (JobsDone D h (jobs_of h) g full) none done) entries in
+    end.same
+
 -- ---- the end
 
-pub swept_by : (D : Document) (h : Story) (before : Count) (g : Story) (now : Count) (full : List Text) (r : Result Unit RunEnd) → EndGives full r → Swept D h before g now full → SweepGives D h before r g now
-swept_by D h before g now full (Ok x) end swept = subst (Swept D h before g now) end swept
-swept_by D h before g now full (Err (TooLarge names)) end swept =
-    (subst (Swept D h before g now) (sym end.0) swept, λ none. end.1 (sym end.0 ∙ none))
-swept_by D h before g now full (Err StoreFault) end swept = tt
-swept_by D h before g now full (Err OutOfMemory) end swept = tt
+pub swept_by : (D : Document) (h g : Story) (full : List Text) (r : Result Unit RunEnd) → EndGives full r → Swept D h g full → SweepGives D h r g
+swept_by D h g full (Ok x) end swept = subst (Swept D h g) end swept
+swept_by D h g full (Err (TooLarge names)) end swept =
+    (subst (Swept D h g) (sym end.0) swept, λ none. end.1 (sym end.0 ∙ none))
+swept_by D h g full (Err StoreFault) end swept = tt
+swept_by D h g full (Err OutOfMemory) end swept = tt
 
--- what a run keeps from its submissions on: whatever run follows is one from there
-pub record Kept (D : Document) (h : Story) (before : Count) (g : Story) (now : Count) : Type 0 where
+-- what a run keeps from its submissions on
+pub record Kept (D : Document) (h g : Story) : Type 0 where
   pub later : Extends g (with_submissions h D.workflows)
   pub paced : IsPaced D (entries_in (with_submissions h D.workflows)) g
-  pub refused : ℕ
-  pub faults : ℕ
-  pub counted : Failed (refused + faults) before now
-  pub leads :
-      (rounds fail : ℕ) (z : Story) → RunRan D g rounds fail z →
-      (n : ℕ) × RunRan D (with_submissions h D.workflows) n (faults + fail) z
 
-pub kept_first : RunsKeepPace → (D : Document) (h : Story) (before : Count) (g : Story) (now : Count) → SomeFailed before now → g ≡ with_submissions h D.workflows → Kept D h before g now
-kept_first law D h before g now some e =
-    subst (λ k. Kept D h before k now) (sym e) record {
+pub kept_first : RunsKeepPace → (D : Document) (h g : Story) → g ≡ with_submissions h D.workflows → Kept D h g
+kept_first law D h g e =
+    subst (Kept D h) (sym e) record {
       later = extends_itself (with_submissions h D.workflows);
       paced = law.begin D (with_submissions h D.workflows);
-      refused = some.0;
-      faults = 0;
-      counted = subst (λ n. Failed n before now) (none_behind some.0) some.1;
-      leads = λ rounds fail z ran. (rounds, subst (λ n. RunRan D (with_submissions h D.workflows) rounds n z) (none_before fail) ran);
     }
-  where
-    none_behind : (n : ℕ) → n ≡ n + 0
-    none_behind n = omega arith
 
-    none_before : (n : ℕ) → n ≡ 0 + n
-    none_before n = omega arith
-
--- one round more
-pub kept_on : (D : Document) (h : Story) (before : Count) (g : Story) (now : Count) (k : Story) (later : Count) → GoesOn D g k → KeepsPace D g k → NextTurn D g now k later → Kept D h before g now → Kept D h before k later
-kept_on D h before g now k later on pace turn kept = record {
+pub kept_on : (D : Document) (h g k : Story) → GoesOn D g k → KeepsPace D g k → Kept D h g → Kept D h k
+kept_on D h g k on pace kept = record {
   later = extends_later k g (with_submissions h D.workflows) on.later kept.later;
   paced = pace (entries_in (with_submissions h D.workflows)) kept.paced;
-  refused = kept.refused;
-  faults = kept.faults + turn.failures;
-  counted = subst (λ n. Failed n before later) (behind kept.refused kept.faults turn.failures) (failed_then (kept.refused + kept.faults) turn.failures before now later kept.counted turn.counted);
-  leads = λ rounds fail z ran.
-      let one = turn.leads rounds fail z ran in
-      let all = kept.leads (rounds + 1) (turn.failures + fail) z one in
-      (all.0, subst (λ n. RunRan D (with_submissions h D.workflows) all.0 n z) (before_these kept.faults turn.failures fail) all.1);
 }
-  where
-    behind : (a b c : ℕ) → (a + b) + c ≡ a + (b + c)
-    behind a b c = omega arith
 
-    before_these : (a b c : ℕ) → a + (b + c) ≡ (a + b) + c
-    before_these a b c = omega arith
+pub kept_end : (D : Document) (h g : Story) (full : List Text) → Kept D h g → IsOver D g full → Swept D h g full
+kept_end D h g full kept over = record { later = kept.later; paced = kept.paced; over = over }
 
--- and the last
-pub kept_end : (D : Document) (h : Story) (before : Count) (g : Story) (now : Count) (k : Story) (later : Count) (full : List Text) → GoesOn D g k → KeepsPace D g k → Kept D h before g now → LastTurn D g now k later full → Swept D h before k later full
-kept_end D h before g now k later full on pace kept last =
-    let all = kept.leads 1 0 k last.ran in
-    record {
-      refused = kept.refused;
-      rounds = all.0;
-      faults = kept.faults + 0;
-      ran = all.1;
-      counted = subst (λ n. Failed n before later) (none_more kept.refused kept.faults) (failed_then (kept.refused + kept.faults) 0 before now later kept.counted last.counted);
-      later = extends_later k g (with_submissions h D.workflows) on.later kept.later;
-      paced = pace (entries_in (with_submissions h D.workflows)) kept.paced;
-      over = last.over;
-    }
-  where
-    none_more : (a b : ℕ) → (a + b) + 0 ≡ a + (b + 0)
-    none_more a b = omega arith
+pub early : (D : Document) (h g : Story) (r : Result Unit RunEnd) (e : RunEnd) → r ≡ Err e → NamesNone (let x : Result Unit RunEnd = Err e in x) → SweepGives D h r g
+early D h g r (TooLarge full) is none = absurd none
+early D h g r StoreFault is none = subst (λ x. SweepGives D h x g) (sym is) tt
+early D h g r OutOfMemory is none = subst (λ x. SweepGives D h x g) (sym is) tt

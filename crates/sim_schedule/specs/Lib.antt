@@ -1,5 +1,4 @@
 pub mod Inside
-pub mod Counting
 pub mod Sweeping
 pub mod HandCode
 pub mod Simulating

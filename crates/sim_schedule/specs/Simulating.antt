@@ -1,5 +1,5 @@
 -- What is left of a run that follows a schedule first.
-use Rattle.std.specs.Prelude.{◌≢◌, ℕ, ◌+◌, List, [], ◌∷◌, map, replicate, Result, Ok, Err}
+use Rattle.std.specs.Prelude.{◌≢◌, ℕ, ◌+◌, ◌≤◌, List, [], ◌∷◌, map, replicate, Result, Ok, Err}
 use Rattle.history.specs.History.{Extends}
 use Rattle.item_reader.specs.declared.schedules.ScheduleStep.{ScheduleStep as SaidStep}
 use Rattle.item_reader.specs.declared.schedules.ScheduleStep.TheVariants as said
@@ -8,8 +8,7 @@ use Rattle.law.specs.Contents.{Story}
 use Rattle.law.specs.Due.{IsPaced}
 use Rattle.next_step.specs.Hands.{for_flow, for_pod, Hand, idle_hand, Answer, has_failed, CallNote}
 use Rattle.next_step.specs.Plays.{ScheduleStep, give_job, make_step, restart, set_lag, set_clock, stage, Played}
-use Rattle.next_step.specs.Rounds.{entries_in, RunRan}
-use Rattle.sim_schedule.specs.Counting.{Count, Failed}
+use Rattle.next_step.specs.Rounds.{entries_in}
 use Rattle.sim_schedule.specs.Sweeping.{with_submissions, IsOver}
 use Rattle.sim_schedule.specs.declared.end.RunEnd.{RunEnd}
 use Rattle.sim_schedule.specs.declared.end.RunEnd.TheVariants.{StoreFault, TooLarge, Memory}
@@ -47,33 +46,23 @@ failures (n ∷ ns) = failed n.answer + failures ns
 -- ---- a schedule is followed
 
 -- From this history to that one: each step was played, and each of its calls answered, by the history that the steps before it
--- left. As many calls failed as the faults by which the outage rose.
-pub record Followed (D : Document) (s : Schedule) (h : Story) (before : Count) (g : Story) (after : Count) : Type 0 where
+-- left. No more calls failed than the faults by which the outage rose.
+pub record Followed (D : Document) (s : Schedule) (h : Story) (before : ℕ) (g : Story) (after : ℕ) : Type 0 where
   pub notes : List CallNote
   pub hands : List Hand
   pub played : Played D (stage h (hands_of s)) (steps_of s) notes (stage g hands)
-  pub counted : Failed (failures notes) before after
+  pub few : failures notes + before ≤ after
 
--- The workflows that were lacking are submitted, where so many calls are refused; the schedule is followed from there on, and
--- behind it the run goes on by rounds, as without a schedule, up to an end that is quiet but for these workflows, which are full.
--- Before the rounds each workflow is submitted again, which adds no entry: so many of these calls fail, and the others find it there.
-pub record Simulated (D : Document) (s : Schedule) (h : Story) (before : Count) (g : Story) (after : Count) (full : List Text) : Type 0 where
-  pub refused : ℕ
-  pub submitted : Count
-  pub submits : Failed refused before submitted
+-- The workflows that were lacking are submitted, and the schedule is followed from there on. Behind it the pace is kept, up to an
+-- end that is quiet but for these workflows, which are full.
+pub record Simulated (D : Document) (s : Schedule) (h : Story) (before : ℕ) (g : Story) (after : ℕ) (full : List Text) : Type 0 where
   pub end : Story
-  pub ended : Count
-  pub followed : Followed D s (with_submissions h D.workflows) submitted end ended
-  pub again : ℕ
-  pub rounds : ℕ
-  pub faults : ℕ
-  pub ran : RunRan D end rounds faults g
-  pub counted : Failed (again + faults) ended after
+  pub followed : Followed D s (with_submissions h D.workflows) before end after
   pub later : Extends g end
   pub paced : IsPaced D (entries_in end) g
   pub over : IsOver D g full
 
-abbrev pub SimulationGives : Document → Schedule → Story → Count → Result Unit RunEnd → Story → Count → Type 0
+abbrev pub SimulationGives : Document → Schedule → Story → ℕ → Result Unit RunEnd → Story → ℕ → Type 0
 SimulationGives D s h before (Ok _) g after = Simulated D s h before g after []
 SimulationGives D s h before (Err (TooLarge full)) g after = Simulated D s h before g after full × (full ≢ [])
 SimulationGives D s h before (Err StoreFault) g after = Unit {0}

@@ -1,5 +1,5 @@
 -- What a run leaves.
-use Rattle.std.specs.Prelude.{◌≢◌, ℕ, ◌+◌, List, [], ◌∷◌, Bool, Result, Ok, Err, is_some, if◌then◌else◌}
+use Rattle.std.specs.Prelude.{◌≢◌, ℕ, List, [], ◌∷◌, Bool, Result, Ok, Err, is_some, if◌then◌else◌}
 use Rattle.tree_types.specs.declared.entry.Key.TheVariants as of_key
 use Rattle.wf_manifest.specs.declared.manifest.Manifest.{Manifest}
 use Rattle.history.specs.History.{Extends, grown, version_at}
@@ -7,10 +7,9 @@ use Rattle.law.specs.Documents.{Text, Document}
 use Rattle.law.specs.Contents.{apply, Story}
 use Rattle.law.specs.Justified.{IsLawful}
 use Rattle.law.specs.Due.{IsQuiet, IsPaced}
-use Rattle.next_step.specs.Rounds.{entries_in, RunRan}
+use Rattle.next_step.specs.Rounds.{entries_in}
 use Rattle.run_laws.specs.Submissions.{submitted, submission}
 use Rattle.run_laws.specs.Fulls.{Fulls}
-use Rattle.sim_schedule.specs.Counting.{Count, Failed}
 use Rattle.sim_schedule.specs.declared.end.RunEnd.{RunEnd}
 use Rattle.sim_schedule.specs.declared.end.RunEnd.TheVariants.{StoreFault, TooLarge, Memory}
 
@@ -52,21 +51,14 @@ pub record IsOver (D : Document) (h : Story) (full : List Text) : Type 0 where
   pub quiet : IsQuiet D h
   pub fulls : Fulls D h (submitted h) full
 
--- The run has submitted what was lacking. From there on it was made by rounds, each of whose jobs ran to its end, and the
--- clock went on as the pace has it, up to an end that is quiet. As many calls failed as the outage's faults rose by: those
--- of the submissions, and those of the rounds.
-pub record Swept (D : Document) (h : Story) (before : Count) (g : Story) (after : Count) (full : List Text) : Type 0 where
-  pub refused : ℕ
-  pub rounds : ℕ
-  pub faults : ℕ
-  pub ran : RunRan D (with_submissions h D.workflows) rounds faults g
-  pub counted : Failed (refused + faults) before after
+-- the run has submitted what was lacking, and from there on kept the pace, up to an end that is quiet
+pub record Swept (D : Document) (h g : Story) (full : List Text) : Type 0 where
   pub later : Extends g (with_submissions h D.workflows)
   pub paced : IsPaced D (entries_in (with_submissions h D.workflows)) g
   pub over : IsOver D g full
 
-abbrev pub SweepGives : Document → Story → Count → Result Unit RunEnd → Story → Count → Type 0
-SweepGives D h before (Ok _) g after = Swept D h before g after []
-SweepGives D h before (Err (TooLarge full)) g after = Swept D h before g after full × (full ≢ [])
-SweepGives D h before (Err StoreFault) g after = Unit {0}
-SweepGives D h before (Err Memory) g after = Unit {0}
+abbrev pub SweepGives : Document → Story → Result Unit RunEnd → Story → Type 0
+SweepGives D h (Ok _) g = Swept D h g []
+SweepGives D h (Err (TooLarge full)) g = Swept D h g full × (full ≢ [])
+SweepGives D h (Err StoreFault) g = Unit {0}
+SweepGives D h (Err Memory) g = Unit {0}

@@ -4,11 +4,10 @@ ghost use Rattle.std.specs.Prelude.{◌≡◌, [], ◌∷◌, ◌++◌, map, IfO
 ghost use Rattle.lawful.specs.Manifests.{HasValidWorkflows};
 ghost use Rattle.next_laws.specs.Playing.{HandHasSeen};
 ghost use Rattle.next_step.specs.Hands.{idle_hand};
-ghost use Rattle.sim_schedule.specs.Counting.{count_of};
 ghost use Rattle.sim_schedule.specs.Sweeping.{GoesOn};
 ghost use Rattle.wf_object.specs.Documents.{law_of};
 ghost use Rattle.sim_schedule.specs.Inside.Hands.{given, IsBusyFirst, hand_after};
-ghost use Rattle.sim_schedule.specs.Inside.Steps.{HandMoves, OneAtMost};
+ghost use Rattle.sim_schedule.specs.Inside.Steps.{HandMoves};
 
 use crate::hand_job::{Doing, Job, begin, begin_next};
 use crate::hand_step::{Left, run, work};
@@ -118,9 +117,8 @@ impl Hand {
         requires seen { HandHasSeen store.old.history self }
         ensures on { GoesOn (law_of document.now) store.old.history store.new.history }
         ensures made { IfOk result (λ hand. HandMoves (law_of document.now)
-            store.old.history self (count_of O.faults store.old)
-            store.new.history hand (count_of O.faults store.new)) }
-        ensures few { OneAtMost (count_of O.faults store.old) (count_of O.faults store.new) }
+            store.old.history self (O.faults store.old.outage)
+            store.new.history hand (O.faults store.new.outage)) }
     {
         let Hand {
             doing,
@@ -156,9 +154,8 @@ impl Hand {
         requires seen { HandHasSeen store.old.history self.old }
         ensures on { GoesOn (law_of document.now) store.old.history store.new.history }
         ensures made { OnOk result (HandMoves (law_of document.now)
-            store.old.history self.old (count_of O.faults store.old)
-            store.new.history self.new (count_of O.faults store.new)) }
-        ensures few { OneAtMost (count_of O.faults store.old) (count_of O.faults store.new) }
+            store.old.history self.old (O.faults store.old.outage)
+            store.new.history self.new (O.faults store.new.outage)) }
     {
         let hand = mem::replace(self, Hand::idle(alloc));
         *self = hand.stepped(alloc, store, document)?;

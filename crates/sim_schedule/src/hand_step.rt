@@ -8,11 +8,10 @@ ghost use Rattle.pod_runner.specs.Running as running;
 ghost use Rattle.pod_runner.specs.declared.answers.RunFault.TheVariants as run_faults;
 ghost use Rattle.reconcile_core.specs.Workers as working;
 ghost use Rattle.reconcile_core.specs.declared.answers.ReconcileFault.TheVariants as faults;
-ghost use Rattle.sim_schedule.specs.Counting.{count_of};
 ghost use Rattle.sim_schedule.specs.Sweeping.{GoesOn};
 ghost use Rattle.wf_object.specs.Documents.{law_of};
 ghost use Rattle.sim_schedule.specs.Inside.Hands.{HasOne, HasOnePod, IsBusyFirst, hand_with, hand_after, is_called, is_running};
-ghost use Rattle.sim_schedule.specs.Inside.Steps.{HandMoves, OneAtMost};
+ghost use Rattle.sim_schedule.specs.Inside.Steps.{HandMoves};
 
 use crate::hand_job::Doing;
 use base_types::Memory;
@@ -76,9 +75,8 @@ pub(crate) fn work<O: Outage>(
     requires seen { HandHasSeen store.old.history (working.hand_of lag worker) }
     ensures on { GoesOn (law_of document.now) store.old.history store.new.history }
     ensures made { IfOk result (λ left. (rest : List Given) → HandMoves (law_of document.now)
-        store.old.history (hand_with (working.hand_of lag worker) rest) (count_of O.faults store.old)
-        store.new.history (hand_after left rest) (count_of O.faults store.new)) }
-    ensures few { OneAtMost (count_of O.faults store.old) (count_of O.faults store.new) }
+        store.old.history (hand_with (working.hand_of lag worker) rest) (O.faults store.old.outage)
+        store.new.history (hand_after left rest) (O.faults store.new.outage)) }
     ensures one { IfOk result (λ left. IfSome left.doing (λ doing. (rest : List Given) → IsBusyFirst doing rest)) }
 {
     let mut client = MemClient::new(store, document);
@@ -106,9 +104,8 @@ pub(crate) fn run<O: Outage>(
     requires seen { HandHasSeen store.old.history (running.hand_of lag runner) }
     ensures on { GoesOn (law_of document.now) store.old.history store.new.history }
     ensures made { IfOk result (λ left. (rest : List Given) → HandMoves (law_of document.now)
-        store.old.history (hand_with (running.hand_of lag runner) rest) (count_of O.faults store.old)
-        store.new.history (hand_after left rest) (count_of O.faults store.new)) }
-    ensures few { OneAtMost (count_of O.faults store.old) (count_of O.faults store.new) }
+        store.old.history (hand_with (running.hand_of lag runner) rest) (O.faults store.old.outage)
+        store.new.history (hand_after left rest) (O.faults store.new.outage)) }
     ensures one { IfOk result (λ left. IfSome left.doing (λ doing. (rest : List Given) → IsBusyFirst doing rest)) }
 {
     let mut client = MemClient::new(store, document);

@@ -7,11 +7,10 @@ ghost use Rattle.next_laws.specs.Playing.{IsLawfulStage};
 ghost use Rattle.next_step.specs.Hands.{Hand as ScheduleHand, idle_hand};
 ghost use Rattle.next_step.specs.Plays.{stage, set_clock};
 ghost use Rattle.object_store.specs.declared.refused.StoreRefused.TheVariants as refused;
-ghost use Rattle.sim_schedule.specs.Counting.{count_of};
 ghost use Rattle.sim_schedule.specs.Sweeping.{GoesOn};
 ghost use Rattle.wf_object.specs.Documents.{law_of};
 ghost use Rattle.sim_schedule.specs.Simulating.{step_of};
-ghost use Rattle.sim_schedule.specs.Inside.Steps.{StepPlayed, OneAtMost};
+ghost use Rattle.sim_schedule.specs.Inside.Steps.{StepPlayed};
 
 use crate::hand::Hand;
 use crate::hand_job::Job;
@@ -57,9 +56,8 @@ fn move_clock<O: Outage>(
 ) -> Result<(), Memory>
     ensures on { GoesOn (law_of document.now) store.old.history store.new.history }
     ensures played { (hands : List ScheduleHand) → OnOk result (StepPlayed (law_of document.now) (set_clock to)
-        (stage store.old.history hands) (count_of O.faults store.old)
-        (stage store.new.history hands) (count_of O.faults store.new)) }
-    ensures few { OneAtMost (count_of O.faults store.old) (count_of O.faults store.new) }
+        (stage store.old.history hands) (O.faults store.old.outage)
+        (stage store.new.history hands) (O.faults store.new.outage)) }
 {
     let answer = store.tick(to);
     is_answered(&answer)
@@ -79,9 +77,8 @@ pub(crate) fn play<O: Outage>(
     ensures on { GoesOn (law_of document.now) store.old.history store.new.history }
     ensures count { OnOk result (length hands.new.items ≡ length hands.old.items) }
     ensures played { OnOk result (StepPlayed (law_of document.now) (step_of step.now)
-        (stage store.old.history hands.old.items) (count_of O.faults store.old)
-        (stage store.new.history hands.new.items) (count_of O.faults store.new)) }
-    ensures few { OneAtMost (count_of O.faults store.old) (count_of O.faults store.new) }
+        (stage store.old.history hands.old.items) (O.faults store.old.outage)
+        (stage store.new.history hands.new.items) (O.faults store.new.outage)) }
 {
     match step {
         ScheduleStep::Give { hand, workflow } => {

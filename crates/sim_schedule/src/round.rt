@@ -1,17 +1,17 @@
 //! A round: a job for each workflow and each pod that has not ended.
 
-ghost use Rattle.std.specs.Prelude.{◌≡◌, ◌≢◌, ◌<◌, ◌∷◌, ◌++◌, ◌||◌, [], List, false, map, nat_lt, Err, IfOk, OnOk, OnErr};
+ghost use Rattle.std.specs.Prelude.{◌≡◌, ◌≤◌, ◌∷◌, ◌++◌, ◌||◌, [], List, false, map, Err, IfOk, OnOk};
 ghost use Rattle.law.specs.Contents.{Story};
 ghost use Rattle.law.specs.Justified.{IsLawful};
 ghost use Rattle.lawful.specs.Manifests.{HasValidWorkflows};
 ghost use Rattle.next_step.specs.Hands.{Given, for_flow, for_pod};
 ghost use Rattle.next_step.specs.Rounds.{jobs_of};
-ghost use Rattle.run_laws.specs.Rounds.{full_by, failures_by};
+ghost use Rattle.run_laws.specs.Whole.{Ran};
+ghost use Rattle.run_laws.specs.Rounds.{JobsDone, full_by, is_failed};
 ghost use Rattle.wf_object.specs.Documents.{law_of};
 ghost use Rattle.object_store.specs.Stored.{most_faults};
 ghost use Rattle.sim_schedule.specs.declared.end.RunEnd.TheVariants.{StoreFault};
 ghost use Rattle.sim_schedule.specs.Inside.Jobs.{given, told, KnowsEnd, KnowsEnds};
-ghost use Rattle.sim_schedule.specs.Counting.{Count, count_of, Failed, SomeFailed, RanCounted, RoundDone};
 ghost use Rattle.sim_schedule.specs.Sweeping.{GoesOn, NamesNone};
 ghost use Rattle.sim_schedule.specs.Inside.Restings.{KnowsRest};
 ghost use Rattle.sim_schedule.specs.Inside.Rosters.{IsOf, Follows};
@@ -52,13 +52,9 @@ fn work<O: Outage>(
 ) -> Result<JobEnd, Memory>
     requires valid { HasValidWorkflows (law_of document.now) }
     ensures on { GoesOn (law_of document.now) store.old.history store.new.history }
-    ensures some { SomeFailed (count_of O.faults store.old) (count_of O.faults store.new) }
-    ensures memory { OnErr result (Failed 0
-        (count_of O.faults store.old) (count_of O.faults store.new)) }
+    ensures rising { O.faults store.old.outage ≤ O.faults store.new.outage }
     ensures ran { IsLawful (law_of document.now) store.old.history → IfOk result (λ end.
-        RanCounted (law_of document.now)
-        store.old.history (count_of O.faults store.old) (for_flow workflow.now) (told end)
-        store.new.history (count_of O.faults store.new)) }
+        Ran (law_of document.now) store.old.history (for_flow workflow.now) (told end) store.new.history) }
 {
     never_moved();
     let mut client = MemClient::new(store, document);
@@ -86,13 +82,9 @@ fn run<O: Outage>(
 ) -> Result<JobEnd, Memory>
     requires valid { HasValidWorkflows (law_of document.now) }
     ensures on { GoesOn (law_of document.now) store.old.history store.new.history }
-    ensures some { SomeFailed (count_of O.faults store.old) (count_of O.faults store.new) }
-    ensures memory { OnErr result (Failed 0
-        (count_of O.faults store.old) (count_of O.faults store.new)) }
+    ensures rising { O.faults store.old.outage ≤ O.faults store.new.outage }
     ensures ran { IsLawful (law_of document.now) store.old.history → IfOk result (λ end.
-        RanCounted (law_of document.now)
-        store.old.history (count_of O.faults store.old) (for_pod workflow.now node.now) (told end)
-        store.new.history (count_of O.faults store.new)) }
+        Ran (law_of document.now) store.old.history (for_pod workflow.now node.now) (told end) store.new.history) }
 {
     never_moved();
     let mut client = MemClient::new(store, document);
@@ -118,13 +110,9 @@ fn do_job<O: Outage>(
 ) -> Result<JobEnd, Memory>
     requires valid { HasValidWorkflows (law_of document.now) }
     ensures on { GoesOn (law_of document.now) store.old.history store.new.history }
-    ensures some { SomeFailed (count_of O.faults store.old) (count_of O.faults store.new) }
-    ensures memory { OnErr result (Failed 0
-        (count_of O.faults store.old) (count_of O.faults store.new)) }
+    ensures rising { O.faults store.old.outage ≤ O.faults store.new.outage }
     ensures ran { IsLawful (law_of document.now) store.old.history → IfOk result (λ end.
-        RanCounted (law_of document.now)
-        store.old.history (count_of O.faults store.old) (given job.now) (told end)
-        store.new.history (count_of O.faults store.new)) }
+        Ran (law_of document.now) store.old.history (given job.now) (told end) store.new.history) }
 {
     match job {
         Job::Workflow(workflow) => work(alloc, store, document, workflow),
@@ -145,13 +133,9 @@ fn do_or_pass<O: Outage>(
     requires ends { IsLawful (law_of document.now) store.old.history →
         KnowsEnd (law_of document.now) store.old.history job.now }
     ensures on { GoesOn (law_of document.now) store.old.history store.new.history }
-    ensures some { SomeFailed (count_of O.faults store.old) (count_of O.faults store.new) }
-    ensures memory { OnErr result (Failed 0
-        (count_of O.faults store.old) (count_of O.faults store.new)) }
+    ensures rising { O.faults store.old.outage ≤ O.faults store.new.outage }
     ensures ran { IsLawful (law_of document.now) store.old.history → IfOk result (λ end.
-        RanCounted (law_of document.now)
-        store.old.history (count_of O.faults store.old) (given job.now) (told end)
-        store.new.history (count_of O.faults store.new)) }
+        Ran (law_of document.now) store.old.history (given job.now) (told end) store.new.history) }
     ensures resting { OnOk result (KnowsRest (law_of document.now) store.new.history resting.new) }
 {
     workflows_rest();
@@ -191,7 +175,7 @@ impl Round {
     // Notes how a job ended.
     fn note(&mut self, job: &Job, end: JobEnd) -> Result<(), Memory>
         ensures full { OnOk result (self.new.full ≡ self.old.full ++ full_by (given job.now) (told end)) }
-        ensures failed { OnOk result (self.new.failed ≡ (self.old.failed || nat_lt 0 (failures_by (told end)))) }
+        ensures failed { OnOk result (self.new.failed ≡ (self.old.failed || is_failed (told end))) }
     {
         match end {
             JobEnd::Went => {}
@@ -219,14 +203,11 @@ impl Round {
         requires ends { IsLawful (law_of document.now) store.old.history →
             KnowsEnd (law_of document.now) store.old.history job.now }
         ensures on { GoesOn (law_of document.now) store.old.history store.new.history }
-        ensures some { SomeFailed (count_of O.faults store.old) (count_of O.faults store.new) }
-        ensures unlost { result ≢ Err StoreFault →
-            store.old.row < most_faults → store.new.row < most_faults }
-        ensures done { (start : Story) (first : Count) (jobs : List Given) → IsLawful (law_of document.now) store.old.history →
-            RoundDone (law_of document.now) start first jobs
-            store.old.history (count_of O.faults store.old) self.old.full self.old.failed →
-            OnOk result (RoundDone (law_of document.now) start first (jobs ++ given job.now ∷ [])
-            store.new.history (count_of O.faults store.new) self.new.full self.new.failed) }
+        ensures rising { O.faults store.old.outage ≤ O.faults store.new.outage }
+        ensures done { (start : Story) (jobs : List Given) → IsLawful (law_of document.now) store.old.history →
+            JobsDone (law_of document.now) start jobs store.old.history self.old.full self.old.failed →
+            OnOk result (JobsDone (law_of document.now) start (jobs ++ given job.now ∷ [])
+            store.new.history self.new.full self.new.failed) }
         ensures resting { OnOk result (KnowsRest (law_of document.now) store.new.history resting.new) }
         ensures fault { result ≡ Err StoreFault → store.new.row ≡ most_faults }
         ensures names { NamesNone result }
@@ -255,14 +236,11 @@ fn do_jobs<O: Outage>(
     requires ends { IsLawful (law_of document.now) store.old.history →
         KnowsEnds (law_of document.now) store.old.history jobs.now }
     ensures on { GoesOn (law_of document.now) store.old.history store.new.history }
-    ensures some { SomeFailed (count_of O.faults store.old) (count_of O.faults store.new) }
-    ensures unlost { result ≢ Err StoreFault →
-        store.old.row < most_faults → store.new.row < most_faults }
-    ensures done { (start : Story) (first : Count) (before : List Given) → IsLawful (law_of document.now) store.old.history →
-        RoundDone (law_of document.now) start first before
-        store.old.history (count_of O.faults store.old) round.old.full round.old.failed →
-        OnOk result (RoundDone (law_of document.now) start first (before ++ map given jobs.now)
-        store.new.history (count_of O.faults store.new) round.new.full round.new.failed) }
+    ensures rising { O.faults store.old.outage ≤ O.faults store.new.outage }
+    ensures done { (start : Story) (before : List Given) → IsLawful (law_of document.now) store.old.history →
+        JobsDone (law_of document.now) start before store.old.history round.old.full round.old.failed →
+        OnOk result (JobsDone (law_of document.now) start (before ++ map given jobs.now)
+        store.new.history round.new.full round.new.failed) }
     ensures resting { OnOk result (KnowsRest (law_of document.now) store.new.history resting.new) }
     ensures fault { result ≡ Err StoreFault → store.new.row ≡ most_faults }
     ensures names { NamesNone result }
@@ -285,12 +263,10 @@ pub(crate) fn do_round<O: Outage>(
     requires follows { Follows (law_of document.now) store.old.history roster.old }
     requires resting { KnowsRest (law_of document.now) store.old.history roster.old.resting }
     ensures on { GoesOn (law_of document.now) store.old.history store.new.history }
-    ensures some { SomeFailed (count_of O.faults store.old) (count_of O.faults store.new) }
-    ensures unlost { result ≢ Err StoreFault →
-        store.old.row < most_faults → store.new.row < most_faults }
+    ensures rising { O.faults store.old.outage ≤ O.faults store.new.outage }
     ensures done { IsLawful (law_of document.now) store.old.history → IfOk result (λ round.
-        RoundDone (law_of document.now) store.old.history (count_of O.faults store.old)
-        (jobs_of store.old.history) store.new.history (count_of O.faults store.new) round.full round.failed) }
+        JobsDone (law_of document.now) store.old.history (jobs_of store.old.history)
+        store.new.history round.full round.failed) }
     ensures jobs { IsLawful (law_of document.now) store.old.history →
         OnOk result (IsOf store.old.history roster.new) }
     ensures ends { IsLawful (law_of document.now) store.old.history →

@@ -1,12 +1,11 @@
 //! A run that follows the schedule of its document.
 
-ghost use Rattle.std.specs.Prelude.{◌≡◌, ◌≢◌, ◌<◌, Err, OnOk};
+ghost use Rattle.std.specs.Prelude.{◌≡◌, Err, OnOk};
 ghost use Rattle.document_laws.specs.Schedules.{HasItsHands};
 ghost use Rattle.law.specs.Justified.{IsLawful};
 ghost use Rattle.lawful.specs.Manifests.{HasValidWorkflows};
 ghost use Rattle.object_store.specs.Stored.{most_faults};
 ghost use Rattle.sim_schedule.specs.declared.end.RunEnd.TheVariants.{StoreFault};
-ghost use Rattle.sim_schedule.specs.Counting.{count_of, SomeFailed};
 ghost use Rattle.sim_schedule.specs.Sweeping.{GoesOn, NamesNone};
 ghost use Rattle.wf_object.specs.Documents.{law_of};
 ghost use Rattle.sim_schedule.specs.Simulating.{Followed, SimulationGives};
@@ -33,21 +32,18 @@ fn follow<O: Outage>(
     requires lawful { IsLawful (law_of document.now) store.old.history }
     ensures on { GoesOn (law_of document.now) store.old.history store.new.history }
     ensures followed { OnOk result (Followed (law_of document.now) document.now.schedule
-        store.old.history (count_of O.faults store.old) store.new.history (count_of O.faults store.new)) }
-    ensures some { SomeFailed (count_of O.faults store.old) (count_of O.faults store.new) }
+        store.old.history (O.faults store.old.outage) store.new.history (O.faults store.new.outage)) }
     ensures fault { result ≡ Err StoreFault → store.new.row ≡ most_faults }
-    ensures unlost { result ≢ Err StoreFault → store.old.row < most_faults → store.new.row < most_faults }
     ensures names { NamesNone result }
 {
     plays_lawfully();
     let mut hands = idle_hands(alloc, document.schedule.workers)?;
     let steps = document.schedule.steps.as_slice();
     'steps: for i in 0..steps.len() {
-        let played = play(alloc, store, document, &mut hands, &steps[i]);
+        play(alloc, store, document, &mut hands, &steps[i])?;
         if store.row() == MOST_FAULTS {
             return Err(RunEnd::StoreFault);
         }
-        played?;
     }
     Ok(())
 }
@@ -68,10 +64,8 @@ pub fn simulate<O: Outage>(
     requires lawful { IsLawful (law_of document.now) store.old.history }
     ensures on { GoesOn (law_of document.now) store.old.history store.new.history }
     ensures simulated { SimulationGives (law_of document.now) document.now.schedule
-        store.old.history (count_of O.faults store.old) result store.new.history (count_of O.faults store.new) }
-    ensures some { SomeFailed (count_of O.faults store.old) (count_of O.faults store.new) }
+        store.old.history (O.faults store.old.outage) result store.new.history (O.faults store.new.outage) }
     ensures fault { result ≡ Err StoreFault → store.new.row ≡ most_faults }
-    ensures unlost { result ≢ Err StoreFault → store.old.row < most_faults → store.new.row < most_faults }
 {
     submit_all(alloc, store, document)?;
     follow(alloc, store, document)?;

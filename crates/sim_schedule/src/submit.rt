@@ -1,15 +1,14 @@
 //! The submissions of a document's workflows.
 
-ghost use Rattle.std.specs.Prelude.{◌≡◌, ◌≢◌, ◌<◌, true, false, Err, IfOk, OnOk};
+ghost use Rattle.std.specs.Prelude.{◌≡◌, ◌≤◌, true, false, Err, IfOk, OnOk};
 ghost use Rattle.growth.specs.Growth.{Among};
 ghost use Rattle.wf_manifest.specs.Valid.{Valid as IsValid};
 ghost use Rattle.lawful.specs.Manifests.{HasValidWorkflows};
 ghost use Rattle.object_store.specs.Stored.{most_faults};
 ghost use Rattle.wf_object.specs.Documents.{law_of};
 ghost use Rattle.sim_schedule.specs.declared.end.RunEnd.TheVariants.{StoreFault};
-ghost use Rattle.sim_schedule.specs.Counting.{count_of, Failed, SomeFailed};
 ghost use Rattle.sim_schedule.specs.Sweeping.{GoesOn, NamesNone, with_submission, with_submissions};
-ghost use Rattle.sim_schedule.specs.Inside.Submitting.{IsDone, refused_by};
+ghost use Rattle.sim_schedule.specs.Inside.Submitting.{IsDone};
 
 use crate::RunEnd;
 use base_types::{List, Memory, TryCopy};
@@ -44,7 +43,7 @@ fn submit_once<O: Outage>(
     requires valid { IsValid valid.now }
     requires given { Among valid.now (law_of document.now).workflows }
     ensures on { GoesOn (law_of document.now) store.old.history store.new.history }
-    ensures counted { Failed (refused_by result) (count_of O.faults store.old) (count_of O.faults store.new) }
+    ensures rising { O.faults store.old.outage ≤ O.faults store.new.outage }
     ensures done { IfOk result (λ done. done ≡ true →
         store.new.history ≡ with_submission store.old.history valid.now) }
     ensures failed { IfOk result (λ done. done ≡ false → store.new.history ≡ store.old.history) }
@@ -71,9 +70,7 @@ fn submit<O: Outage>(
     requires valid { IsValid valid.now }
     requires given { Among valid.now (law_of document.now).workflows }
     ensures on { GoesOn (law_of document.now) store.old.history store.new.history }
-    ensures counted { SomeFailed (count_of O.faults store.old) (count_of O.faults store.new) }
-    ensures unlost { result ≢ Err StoreFault →
-        store.old.row < most_faults → store.new.row < most_faults }
+    ensures rising { O.faults store.old.outage ≤ O.faults store.new.outage }
     ensures done { OnOk result (store.new.history ≡ with_submission store.old.history valid.now) }
     ensures fault { result ≡ Err StoreFault → store.new.row ≡ most_faults }
     ensures names { NamesNone result }
@@ -100,9 +97,7 @@ pub(crate) fn submit_all<O: Outage>(
 ) -> Result<(), RunEnd>
     requires valid { HasValidWorkflows (law_of document.now) }
     ensures on { GoesOn (law_of document.now) store.old.history store.new.history }
-    ensures counted { SomeFailed (count_of O.faults store.old) (count_of O.faults store.new) }
-    ensures unlost { result ≢ Err StoreFault →
-        store.old.row < most_faults → store.new.row < most_faults }
+    ensures rising { O.faults store.old.outage ≤ O.faults store.new.outage }
     ensures done { OnOk result
         (store.new.history ≡ with_submissions store.old.history (law_of document.now).workflows) }
     ensures fault { result ≡ Err StoreFault → store.new.row ≡ most_faults }

@@ -1,19 +1,17 @@
 //! A run on this thread.
 
-ghost use Rattle.std.specs.Prelude.{◌≡◌, ◌≢◌, ◌<◌, Some, Err, IfOk, OnOk};
+ghost use Rattle.std.specs.Prelude.{◌≡◌, ◌≤◌, false, Some, Err, IfOk, OnOk};
 ghost use Rattle.history.specs.History.{clock_of};
 ghost use Rattle.law.specs.Justified.{IsLawful};
 ghost use Rattle.lawful.specs.Manifests.{HasValidWorkflows};
 ghost use Rattle.object_store.specs.Stored.{most_faults};
-ghost use Rattle.object_store.specs.declared.refused.StoreRefused.TheVariants.{Memory as OutOfMemory};
 ghost use Rattle.next_step.specs.Ticks.{next_tick};
 ghost use Rattle.next_step.specs.Rounds.{jobs_of};
 ghost use Rattle.run_laws.specs.Rounds.{JobsDone};
 ghost use Rattle.wf_object.specs.Documents.{law_of};
 ghost use Rattle.sim_schedule.specs.declared.end.RunEnd.TheVariants.{StoreFault};
-ghost use Rattle.sim_schedule.specs.Counting.{count_of, SomeFailed};
 ghost use Rattle.sim_schedule.specs.Sweeping.{GoesOn, KeepsPace, NamesNone, SweepGives};
-ghost use Rattle.sim_schedule.specs.Inside.Turns.{NextTurn, TurnGives, EndGives};
+ghost use Rattle.sim_schedule.specs.Inside.Turns.{TurnGives, EndGives};
 ghost use Rattle.sim_schedule.specs.Inside.Restings.{KnowsRest};
 ghost use Rattle.sim_schedule.specs.Inside.Rosters.{Follows};
 
@@ -24,7 +22,7 @@ use crate::round::do_round;
 use crate::submit::submit_all;
 use base_types::Names;
 use io_edge::Outage;
-use next_laws::laws::{next_tick_is_next, runs_keep_pace};
+use next_laws::laws::runs_keep_pace;
 use object_store::{MOST_FAULTS, Store, StoreRefused};
 use run_laws::laws::{jobs_keep_pace, last_round_is_quiet, round_is_still};
 use std::alloc::Global;
@@ -34,8 +32,6 @@ use wf_object::WfContent;
 // Whether the run ends by a call of the clock.
 fn end_if_lost(answer: Result<(), StoreRefused>, row: u64) -> Result<(), RunEnd>
     ensures fault { result ≡ Err StoreFault → row ≡ most_faults }
-    ensures unlost { result ≢ Err StoreFault → row ≢ most_faults }
-    ensures answered { OnOk result (answer ≢ Err OutOfMemory) }
     ensures names { NamesNone result }
 {
     if row == MOST_FAULTS {
@@ -57,25 +53,16 @@ fn move_clock<O: Outage>(
 ) -> Result<(), RunEnd>
     requires valid { HasValidWorkflows (law_of document.now) }
     ensures on { GoesOn (law_of document.now) store.old.history store.new.history }
-    ensures some { SomeFailed (count_of O.faults store.old) (count_of O.faults store.new) }
-    ensures unlost { result ≢ Err StoreFault →
-        store.old.row < most_faults → store.new.row < most_faults }
+    ensures rising { O.faults store.old.outage ≤ O.faults store.new.outage }
     ensures pace { next_tick (law_of document.now) store.old.history ≡ Some tick →
         IsLawful (law_of document.now) store.old.history →
         JobsDone (law_of document.now) store.old.history (jobs_of store.old.history)
-        store.old.history full.now 0 →
+        store.old.history full.now false →
         KeepsPace (law_of document.now) store.old.history store.new.history }
-    ensures ran { next_tick (law_of document.now) store.old.history ≡ Some tick →
-        IsLawful (law_of document.now) store.old.history →
-        JobsDone (law_of document.now) store.old.history (jobs_of store.old.history)
-        store.old.history full.now 0 →
-        OnOk result (NextTurn (law_of document.now)
-        store.old.history (count_of O.faults store.old) store.new.history (count_of O.faults store.new)) }
     ensures fault { result ≡ Err StoreFault → store.new.row ≡ most_faults }
     ensures names { NamesNone result }
 {
     jobs_keep_pace();
-    next_tick_is_next();
     let answer = store.tick(tick);
     end_if_lost(answer, store.row())
 }
@@ -93,14 +80,11 @@ fn turn<O: Outage>(
     ensures follows { OnOk result (Follows (law_of document.now) store.new.history roster.new) }
     ensures resting { OnOk result (KnowsRest (law_of document.now) store.new.history roster.new.resting) }
     ensures on { GoesOn (law_of document.now) store.old.history store.new.history }
-    ensures some { SomeFailed (count_of O.faults store.old) (count_of O.faults store.new) }
-    ensures unlost { result ≢ Err StoreFault →
-        store.old.row < most_faults → store.new.row < most_faults }
+    ensures rising { O.faults store.old.outage ≤ O.faults store.new.outage }
     ensures pace { IsLawful (law_of document.now) store.old.history → IfOk result (λ _.
         KeepsPace (law_of document.now) store.old.history store.new.history) }
     ensures over { IsLawful (law_of document.now) store.old.history → IfOk result (λ full.
-        TurnGives (law_of document.now) store.old.history (count_of O.faults store.old) full
-        store.new.history (count_of O.faults store.new)) }
+        TurnGives (law_of document.now) full store.new.history) }
     ensures fault { result ≡ Err StoreFault → store.new.row ≡ most_faults }
     ensures names { NamesNone result }
 {
@@ -146,12 +130,9 @@ pub fn sweep<O: Outage>(
 ) -> Result<(), RunEnd>
     requires valid { HasValidWorkflows (law_of document.now) }
     ensures on { GoesOn (law_of document.now) store.old.history store.new.history }
-    ensures counted { SomeFailed (count_of O.faults store.old) (count_of O.faults store.new) }
-    ensures unlost { result ≢ Err StoreFault →
-        store.old.row < most_faults → store.new.row < most_faults }
+    ensures rising { O.faults store.old.outage ≤ O.faults store.new.outage }
     ensures swept { IsLawful (law_of document.now) store.old.history →
-        SweepGives (law_of document.now) store.old.history (count_of O.faults store.old) result
-        store.new.history (count_of O.faults store.new) }
+        SweepGives (law_of document.now) store.old.history result store.new.history }
     ensures fault { result ≡ Err StoreFault → store.new.row ≡ most_faults }
 {
     runs_keep_pace();

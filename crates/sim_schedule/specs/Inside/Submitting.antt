@@ -1,5 +1,5 @@
 -- Whether a submission is there, by what its call was answered.
-use Rattle.std.specs.Prelude.{◌≡◌, ℕ, Bool, true, false, Result, Ok, Err}
+use Rattle.std.specs.Prelude.{◌≡◌, Bool, true, false, Result, Ok, Err}
 use Rattle.base_types.specs.declared.memory.Memory.{Memory}
 use Rattle.object_store.specs.declared.snapshot.Snapshot.{Snapshot}
 use Rattle.object_store.specs.declared.refused.StoreRefused.{StoreRefused}
@@ -13,9 +13,3 @@ IsDone (Err refused.Exists) r = r ≡ Ok true
 IsDone (Err refused.Fault) r = r ≡ Ok false
 IsDone (Err e) (Ok done) = ⊥
 IsDone (Err e) (Err m) = Unit {0}
-
--- how many of its calls failed
-abbrev pub refused_by : Result Bool Memory → ℕ
-refused_by (Ok true) = 0
-refused_by (Ok false) = 1
-refused_by (Err m) = 0

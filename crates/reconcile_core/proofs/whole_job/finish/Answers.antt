@@ -8,7 +8,7 @@ use Rattle.reconcile_core.proofs.whole_job.finish.Goals as goal
 
 pub calls-init : goal.calls-init
 calls-init g c =
-    going_first begins justified g.C.Client.seen g.C.Client.law g.C.Client.place g.C.Client.faults g.C.Client.in_row g.C.Client.lag
+    going_first begins justified g.C.Client.seen g.C.Client.law g.C.Client.place g.C.Client.faults g.C.Client.lag
     g.C.Client.others (law_of c.args.document.now) c.args.job.now.workflow c.args.client.now c.views_stay.ensures
     c.args.job.now.workflow c.args.job.now refl (ap (λ v. record { workflow = c.args.job.now.workflow; views = v }) c.requires.begun)
 
@@ -24,26 +24,26 @@ unreachable-requires g c =
 
 pub calls-preserved : goal.calls-preserved
 calls-preserved g c =
-    going_on begins justified g.C.Client.seen g.C.Client.law g.C.Client.place g.C.Client.faults g.C.Client.in_row g.C.Client.lag
+    going_on begins justified g.C.Client.seen g.C.Client.law g.C.Client.place g.C.Client.faults g.C.Client.lag
     g.C.Client.others (law_of c.args.document.now) c.args.job.now.workflow c.args.client.now c.calls.job c.calls.client
-    c.calls.invariant c.step.result c.step.new.job c.step.new.client c.step.ensures.leaves c.step.ensures.still c.step.ensures.made
+    c.calls.invariant c.step.result c.step.new.job c.step.new.client c.step.ensures.leaves c.step.ensures.made
     c.step.ensures.workflow c.step.ensures.views (c.in-Ok-Called.is ∙ ap Ok c.in-Ok-Called.field-0-is)
 
 pub returns-in-Ok-Ended : goal.returns-in-Ok-Ended
 returns-in-Ok-Ended g c =
     let told = c.in-Ok-Ended.is ∙ ap Ok c.in-Ok-Ended.field-0-is in
-    let all = told_whole begins justified g.C.Client.seen g.C.Client.law g.C.Client.place g.C.Client.faults g.C.Client.in_row g.C.Client.lag
+    let all = told_whole begins justified g.C.Client.seen g.C.Client.law g.C.Client.place g.C.Client.faults g.C.Client.lag
     g.C.Client.others (law_of c.args.document.now) c.args.job.now.workflow c.args.client.now c.calls.job c.calls.client
-    c.calls.invariant c.step.result c.step.new.job c.step.new.client c.step.ensures.leaves c.step.ensures.still c.step.ensures.made
+    c.calls.invariant c.step.result c.step.new.job c.step.new.client c.step.ensures.leaves c.step.ensures.made
     (Ok tt) (sym (ap returned told)) (not_called_ended c.step.result told) g.C.Client.rose c.views_stay.ensures
     c.step.ensures.fault in
-    record { leaves = all.leaves; still = all.still; made = all.made; alone = all.alone; conflict = all.conflict; large = all.large; fault = all.fault }
+    record { leaves = all.leaves; made = all.made; alone = all.alone; conflict = all.conflict; large = all.large; fault = all.fault }
 
 pub returns-in-Err : goal.returns-in-Err
 returns-in-Err g c =
-    let all = told_whole begins justified g.C.Client.seen g.C.Client.law g.C.Client.place g.C.Client.faults g.C.Client.in_row g.C.Client.lag
+    let all = told_whole begins justified g.C.Client.seen g.C.Client.law g.C.Client.place g.C.Client.faults g.C.Client.lag
     g.C.Client.others (law_of c.args.document.now) c.args.job.now.workflow c.args.client.now c.calls.job c.calls.client
-    c.calls.invariant c.step.result c.step.new.job c.step.new.client c.step.ensures.leaves c.step.ensures.still c.step.ensures.made
+    c.calls.invariant c.step.result c.step.new.job c.step.new.client c.step.ensures.leaves c.step.ensures.made
     _ (sym (ap returned c.in-Err.is)) (err_not_called c.step.result c.in-Err.fault c.in-Err.is) g.C.Client.rose c.views_stay.ensures
     c.step.ensures.fault in
-    record { leaves = all.leaves; still = all.still; made = all.made; alone = all.alone; conflict = all.conflict; large = all.large; fault = all.fault }
+    record { leaves = all.leaves; made = all.made; alone = all.alone; conflict = all.conflict; large = all.large; fault = all.fault }

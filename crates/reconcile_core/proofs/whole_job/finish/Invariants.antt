@@ -6,5 +6,5 @@ use Rattle.reconcile_core.proofs.whole_job.finish.Given as goal
 
 abbrev pub invariant-calls : goal.invariant-calls
 invariant-calls g l =
-    Going begins justified g.C.Client.seen g.C.Client.law g.C.Client.place g.C.Client.faults g.C.Client.in_row g.C.Client.lag g.C.Client.others
+    Going begins justified g.C.Client.seen g.C.Client.law g.C.Client.place g.C.Client.faults g.C.Client.lag g.C.Client.others
     (law_of l.document) l.fn.job.workflow l.fn.client l.job l.client

@@ -1,9 +1,7 @@
 -- The clock is at the tick, or where it was.
-use Rattle.std.proofs.Common.{refl}
+use Rattle.std.proofs.Common.{refl, arith}
 use Rattle.history.specs.History.{clock_of}
 use Rattle.wf_object.specs.Documents.{law_of}
-use Rattle.sim_schedule.specs.Counting.{count_of}
-use Rattle.sim_schedule.proofs.OneCall.{call_still, call_rose, call_made}
 use Rattle.sim_schedule.proofs.Submitting.{ticked_on}
 use Rattle.sim_schedule.proofs.Plays.{on_ok, clock_moved}
 use Rattle.sim_schedule.proofs.playing.move_clock.Goals as goal
@@ -15,20 +13,8 @@ returns-clause-on g c =
 
 pub returns-clause-played : goal.returns-clause-played
 returns-clause-played g c = λ hands.
-    let old = c.args.store.now in
-    let new = c.tick-answer.new.self in
     on_ok c.is_answered.result
-    (λ answered. clock_moved (law_of c.args.document.now) old.history new.history c.args.to
-    (count_of g.O.Outage.faults old) (count_of g.O.Outage.faults new) hands c.tick-answer.result answered
-    c.tick-answer.ensures.answer c.tick-answer.ensures.adds
-    (call_still g.O.Outage.faults g.O.Outage.most g.O.Outage.asked old new c.tick-answer.result c.tick-answer.ensures.outage c.tick-answer.ensures.row)
-    (call_rose g.O.Outage.faults g.O.Outage.most g.O.Outage.asked old new c.tick-answer.result c.tick-answer.ensures.outage c.tick-answer.ensures.row))
+    (λ answered. clock_moved (law_of c.args.document.now) c.args.store.now.history c.tick-answer.new.self.history c.args.to
+    (g.O.Outage.faults c.args.store.now.outage) (g.O.Outage.faults c.tick-answer.new.self.outage) hands c.tick-answer.result answered
+    c.tick-answer.ensures.answer c.tick-answer.ensures.adds (λ fault. let up = c.tick-answer.ensures.outage.rose fault in omega (arith, up)) c.tick-answer.ensures.outage.stood)
     c.is_answered.ensures
-
-pub returns-clause-few : goal.returns-clause-few
-returns-clause-few g c =
-    let old = c.args.store.now in
-    let new = c.tick-answer.new.self in
-    call_made c.tick-answer.result (count_of g.O.Outage.faults old) (count_of g.O.Outage.faults new)
-    (call_still g.O.Outage.faults g.O.Outage.most g.O.Outage.asked old new c.tick-answer.result c.tick-answer.ensures.outage c.tick-answer.ensures.row)
-    (call_rose g.O.Outage.faults g.O.Outage.most g.O.Outage.asked old new c.tick-answer.result c.tick-answer.ensures.outage c.tick-answer.ensures.row)

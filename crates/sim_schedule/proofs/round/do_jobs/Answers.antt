@@ -1,10 +1,8 @@
 -- One job more.
-use Rattle.std.proofs.Common.{◌++◌, map, take, refl}
+use Rattle.std.proofs.Common.{◌++◌, map, take, refl, arith}
 use Rattle.wf_object.specs.Documents.{law_of}
-use Rattle.sim_schedule.specs.Counting.{count_of}
 use Rattle.sim_schedule.specs.Inside.Jobs.{given}
 use Rattle.lawful.proofs.Journals.{lawful_then}
-use Rattle.sim_schedule.proofs.Counting.{none_some, some_then, ok_not_err}
 use Rattle.sim_schedule.proofs.Doing.{none_yet, one_more, all_done}
 use Rattle.sim_schedule.proofs.Ends.{knows_one, end_stays}
 use Rattle.sim_schedule.proofs.Submitting.{stays, on}
@@ -13,10 +11,9 @@ use Rattle.sim_schedule.proofs.round.do_jobs.Goals as goal
 pub loop-job-init : goal.loop-job-init
 loop-job-init g c = record {
   on = stays (law_of c.args.document.now) c.args.store.now.history c.args.store.now.history refl;
-  some = none_some (count_of g.O.Outage.faults c.args.store.now);
-  unlost = λ l. l;
+  rising = omega arith;
   resting = c.requires.resting;
-  done = λ start first before lawful done. none_yet (law_of c.args.document.now) start first before c.args.store.now.history (count_of g.O.Outage.faults c.args.store.now) c.args.round.now.full c.args.round.now.failed done;
+  done = λ start before lawful done. none_yet (law_of c.args.document.now) start before c.args.store.now.history c.args.round.now.full c.args.round.now.failed done;
 }
 
 pub add-requires-clause-ends : goal.add-requires-clause-ends
@@ -30,18 +27,17 @@ add-requires-clause-ends g c = λ lawful.
 pub loop-job-preserved : goal.loop-job-preserved
 loop-job-preserved g c = record {
   on = on (law_of c.args.document.now) c.args.store.now.history c.loop-job.store.history c.add.new.store.history c.loop-job.invariant.on c.add.ensures.on;
-  some = some_then (count_of g.O.Outage.faults c.args.store.now) (count_of g.O.Outage.faults c.loop-job.store) (count_of g.O.Outage.faults c.add.new.store) c.loop-job.invariant.some c.add.ensures.some;
-  unlost = λ l. c.add.ensures.unlost (ok_not_err (c.in_ok-add.was)) (c.loop-job.invariant.unlost l);
+  rising = let before = c.loop-job.invariant.rising in let here = c.add.ensures.rising in omega (arith, before, here);
   resting = c.in_ok-add.ensures.resting;
-  done = λ start first before lawful done.
-      one_more (law_of c.args.document.now) start first before c.add.new.store.history (count_of g.O.Outage.faults c.add.new.store) c.add.new.self.full c.add.new.self.failed
+  done = λ start before lawful done.
+      one_more (law_of c.args.document.now) start before c.add.new.store.history c.add.new.self.full c.add.new.self.failed
       c.args.jobs.now c.loop-job.job-index c.job-item.result c.loop-job-test.true c.job-item.is
-      (c.in_ok-add.ensures.done start first (before ++ map given (take c.loop-job.job-index c.args.jobs.now))
-      (c.loop-job.invariant.on.lawful lawful) (c.loop-job.invariant.done start first before lawful done));
+      (c.in_ok-add.ensures.done start (before ++ map given (take c.loop-job.job-index c.args.jobs.now))
+      (c.loop-job.invariant.on.lawful lawful) (c.loop-job.invariant.done start before lawful done));
 }
 
 pub returns-clause-done : goal.returns-clause-done
-returns-clause-done g c = λ start first before lawful done.
-    all_done (law_of c.args.document.now) start first before c.loop-job.store.history (count_of g.O.Outage.faults c.loop-job.store) c.loop-job.round.full c.loop-job.round.failed
+returns-clause-done g c = λ start before lawful done.
+    all_done (law_of c.args.document.now) start before c.loop-job.store.history c.loop-job.round.full c.loop-job.round.failed
     c.args.jobs.now c.loop-job.job-index c.loop-job-test.false c.loop-job.auto.job-index-end
-    (c.loop-job.invariant.done start first before lawful done)
+    (c.loop-job.invariant.done start before lawful done)

@@ -2,7 +2,6 @@
 use Rattle.std.proofs.Common.{[], map, sym, subst}
 use Rattle.lawful.proofs.Journals.{lawful_then}
 use Rattle.wf_object.specs.Documents.{law_of}
-use Rattle.sim_schedule.specs.Counting.{count_of}
 use Rattle.sim_schedule.specs.Inside.Jobs.{given, KnowsEnds, AllWait}
 use Rattle.sim_schedule.specs.Inside.Restings.{KnowsRest}
 use Rattle.sim_schedule.proofs.Ends.{flow_ends, flows_all_wait, ends_stay}
@@ -14,13 +13,12 @@ use Rattle.sim_schedule.proofs.round.do_round.Goals as goal
 pub returns-clause-done : goal.returns-clause-done
 returns-clause-done g c = λ lawful.
     round_done c.rounds_are_done.ensures (law_of c.args.document.now) c.args.store.now.history c.do_jobs.new.store.history
-    c.do_jobs-2.new.store.history (count_of g.O.Outage.faults c.args.store.now) (count_of g.O.Outage.faults c.do_jobs.new.store)
-    (count_of g.O.Outage.faults c.do_jobs-2.new.store) c.new-round.result c.new-round.ensures c.follow.new.self
+    c.do_jobs-2.new.store.history c.new-round.result c.new-round.ensures c.follow.new.self
     (c.in_ok-follow.ensures.now lawful) c.as_slice.result.now c.as_slice-2.result.now
     c.as_slice.ensures c.as_slice-2.ensures c.do_jobs.new.round.full c.do_jobs.new.round.failed c.do_jobs-2.new.round.full
     c.do_jobs-2.new.round.failed
-    (c.in_ok-do_jobs.ensures.done c.args.store.now.history (count_of g.O.Outage.faults c.args.store.now) [] lawful)
-    (c.in_ok-do_jobs-2.ensures.done c.args.store.now.history (count_of g.O.Outage.faults c.args.store.now) (map given c.as_slice.result.now) (c.do_jobs.ensures.on.lawful lawful))
+    (c.in_ok-do_jobs.ensures.done c.args.store.now.history [] lawful)
+    (c.in_ok-do_jobs-2.ensures.done c.args.store.now.history (map given c.as_slice.result.now) (c.do_jobs.ensures.on.lawful lawful))
 
 pub returns-clause-follows : goal.returns-clause-follows
 returns-clause-follows g c =

@@ -1,8 +1,6 @@
 -- So many steps of the schedule were played.
-use Rattle.std.proofs.Common.{◌≡◌, ◌<◌, length, take}
-use Rattle.object_store.specs.Stored.{most_faults}
+use Rattle.std.proofs.Common.{◌≡◌, length, take}
 use Rattle.wf_object.specs.Documents.{law_of}
-use Rattle.sim_schedule.specs.Counting.{count_of}
 use Rattle.sim_schedule.specs.Sweeping.{GoesOn}
 use Rattle.sim_schedule.proofs.Following.{Sofar}
 use Rattle.sim_schedule.proofs.simulated.follow.Given as goal
@@ -13,6 +11,5 @@ invariant-steps g l = record {
   count : length l.hands.items ≡ l.document.schedule.workers;
   sofar :
       Sofar (law_of l.document) l.document.schedule (take l.i l.document.schedule.steps) l.fn.store.history
-      (count_of g.O.Outage.faults l.fn.store) l.store.history l.hands.items (count_of g.O.Outage.faults l.store);
-  unlost : l.fn.store.row < most_faults → l.store.row < most_faults;
+      (g.O.Outage.faults l.fn.store.outage) l.store.history l.hands.items (g.O.Outage.faults l.store.outage);
 }

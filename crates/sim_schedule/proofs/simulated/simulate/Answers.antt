@@ -1,27 +1,13 @@
 -- The submissions, the schedule, and the rounds behind it.
 use Rattle.wf_object.specs.Documents.{law_of}
-use Rattle.sim_schedule.specs.Counting.{count_of}
-use Rattle.sim_schedule.proofs.Counting.{some_then}
 use Rattle.sim_schedule.proofs.Following.{simulation_gives}
 use Rattle.sim_schedule.proofs.simulated.simulate.Goals as goal
 
 pub returns-clause-simulated : goal.returns-clause-simulated
 returns-clause-simulated g c =
     simulation_gives (law_of c.args.document.now) c.args.document.now.schedule c.args.store.now.history c.submit_all.new.store.history
-    c.follow.new.store.history c.sweep.new.store.history (count_of g.O.Outage.faults c.args.store.now)
-    (count_of g.O.Outage.faults c.submit_all.new.store) (count_of g.O.Outage.faults c.follow.new.store)
-    (count_of g.O.Outage.faults c.sweep.new.store) c.submit_all.ensures.counted c.in_ok-submit_all.ensures.done
+    c.follow.new.store.history c.sweep.new.store.history (g.O.Outage.faults c.args.store.now.outage)
+    (g.O.Outage.faults c.submit_all.new.store.outage) (g.O.Outage.faults c.follow.new.store.outage)
+    (g.O.Outage.faults c.sweep.new.store.outage) c.submit_all.ensures.rising c.sweep.ensures.rising c.in_ok-submit_all.ensures.done
     c.follow.ensures.on.later c.in_ok-follow.ensures.followed c.sweep.result
     (c.sweep.ensures.swept (c.follow.ensures.on.lawful (c.submit_all.ensures.on.lawful c.requires.lawful)))
-
-pub returns-in_err-follow-clause-some : goal.returns-in_err-follow-clause-some
-returns-in_err-follow-clause-some g c =
-    some_then (count_of g.O.Outage.faults c.args.store.now) (count_of g.O.Outage.faults c.submit_all.new.store)
-    (count_of g.O.Outage.faults c.follow.new.store) c.submit_all.ensures.counted c.follow.ensures.some
-
-pub returns-clause-some : goal.returns-clause-some
-returns-clause-some g c =
-    some_then (count_of g.O.Outage.faults c.args.store.now) (count_of g.O.Outage.faults c.submit_all.new.store)
-    (count_of g.O.Outage.faults c.sweep.new.store) c.submit_all.ensures.counted
-    (some_then (count_of g.O.Outage.faults c.submit_all.new.store) (count_of g.O.Outage.faults c.follow.new.store)
-    (count_of g.O.Outage.faults c.sweep.new.store) c.follow.ensures.some c.sweep.ensures.counted)

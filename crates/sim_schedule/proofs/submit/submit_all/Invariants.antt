@@ -1,15 +1,12 @@
 -- The workflows that are left are to be submitted.
-use Rattle.std.proofs.Common.{◌≡◌, ◌<◌, drop}
+use Rattle.std.proofs.Common.{◌≡◌, ◌≤◌, drop}
 use Rattle.wf_object.specs.Documents.{law_of}
-use Rattle.object_store.specs.Stored.{most_faults}
-use Rattle.sim_schedule.specs.Counting.{count_of, SomeFailed}
 use Rattle.sim_schedule.specs.Sweeping.{GoesOn, with_submissions}
 use Rattle.sim_schedule.proofs.submit.submit_all.Given as goal
 
 abbrev pub invariant-workflows : goal.invariant-workflows
 invariant-workflows g l = record {
   on : GoesOn (law_of l.document) l.fn.store.history l.store.history;
-  some : SomeFailed (count_of g.O.Outage.faults l.fn.store) (count_of g.O.Outage.faults l.store);
-  unlost : l.fn.store.row < most_faults → l.store.row < most_faults;
+  rising : g.O.Outage.faults l.fn.store.outage ≤ g.O.Outage.faults l.store.outage;
   left : with_submissions l.store.history (drop l.i l.document.workflows) ≡ with_submissions l.fn.store.history l.document.workflows;
 }

@@ -1,9 +1,7 @@
 -- What the run keeps from its submissions on.
-use Rattle.std.proofs.Common.{◌<◌}
+use Rattle.std.proofs.Common.{◌≤◌}
 use Rattle.law.specs.Justified.{IsLawful}
-use Rattle.object_store.specs.Stored.{most_faults}
 use Rattle.wf_object.specs.Documents.{law_of}
-use Rattle.sim_schedule.specs.Counting.{count_of, SomeFailed}
 use Rattle.sim_schedule.specs.Sweeping.{GoesOn}
 use Rattle.sim_schedule.specs.Inside.Restings.{KnowsRest}
 use Rattle.sim_schedule.specs.Inside.Rosters.{Follows}
@@ -15,7 +13,6 @@ invariant-rounds g l = record {
   follows : Follows (law_of l.document) l.store.history l.roster;
   resting : KnowsRest (law_of l.document) l.store.history l.roster.resting;
   on : GoesOn (law_of l.document) l.fn.store.history l.store.history;
-  some : SomeFailed (count_of g.O.Outage.faults l.fn.store) (count_of g.O.Outage.faults l.store);
-  unlost : l.fn.store.row < most_faults → l.store.row < most_faults;
-  kept : IsLawful (law_of l.document) l.fn.store.history → Kept (law_of l.document) l.fn.store.history (count_of g.O.Outage.faults l.fn.store) l.store.history (count_of g.O.Outage.faults l.store);
+  rising : g.O.Outage.faults l.fn.store.outage ≤ g.O.Outage.faults l.store.outage;
+  kept : IsLawful (law_of l.document) l.fn.store.history → Kept (law_of l.document) l.fn.store.history l.store.history;
 }
