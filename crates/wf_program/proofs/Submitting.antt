@@ -1,23 +1,22 @@
 -- The submissions of a document over a new store.
-use Rattle.std.proofs.Common.{◌≡◌, ◌⊎◌, inl, inr, ◌∙◌, ℕ, ◌+◌, ◌<◌, ◌≤◌, arith, ◌≢◌, length, List, [], ◌∷◌, ◌++◌, ap, refl, sym, subst, append_assoc, append-nil, Bool, false, Result, Ok, Err}
+use Rattle.std.proofs.Common.{◌≡◌, ◌⊎◌, inl, inr, ◌∙◌, ℕ, length, List, [], ◌∷◌, ◌++◌, ap, refl, sym, subst, append_assoc, append-nil, Bool, false, Result, Ok, Err}
 use Rattle.std.specs.Prelude.{is_some}
 use Rattle.std.proofs.lemmas.List.{length-map}
 use Rattle.wf_manifest.specs.declared.manifest.Manifest.{Manifest}
 use Rattle.history.specs.History.{Extends, grown}
 use Rattle.history.proofs.Extends.{extends_later}
 use Rattle.law.specs.Documents.{Document}
-use Rattle.law.specs.Contents.{Content, Story}
+use Rattle.law.specs.Contents.{Story}
 use Rattle.law.specs.Justified.{IsLawful}
 use Rattle.law.specs.Due.{IsPaced}
 use Rattle.next_laws.specs.Playing.{PlaysLawfully}
 use Rattle.next_step.specs.Plays.{stage}
 use Rattle.lawful.specs.Laws.{MeetsOnce, StateIsAsSaid}
 use Rattle.lawful.proofs.Journals.{lawful_then}
-use Rattle.next_step.specs.Rounds.{entries_in, RunRan}
-use Rattle.object_store.specs.Stored.{Stored, most_faults}
+use Rattle.next_step.specs.Rounds.{entries_in}
+use Rattle.object_store.specs.Stored.{most_faults}
 use Rattle.plain_laws.specs.PlainTrees.{PlainRunsAsPlanned}
 use Rattle.run_laws.specs.Submissions.{NamesDiffer, SubmissionsGoWell, begun, submission}
-use Rattle.sim_schedule.specs.Counting.{Count, count_of, SomeFailed as SomeCalls}
 use Rattle.sim_schedule.specs.Sweeping.{has_workflow, with_submission, with_submissions, GoesOn, Swept, SweepGives}
 use Rattle.sim_schedule.specs.declared.end.RunEnd.{RunEnd}
 use Rattle.sim_schedule.specs.declared.end.RunEnd.TheVariants.{StoreFault, TooLarge, Memory}
@@ -26,7 +25,7 @@ use Rattle.wf_object.specs.Documents.{law_of}
 use Rattle.command_words.specs.declared.order.Mode.{Mode}
 use Rattle.command_words.specs.declared.order.Mode.TheVariants as mode
 use Rattle.sim_schedule.specs.Simulating.{steps_of, hands_of, Followed, Simulated, SimulationGives}
-use Rattle.wf_program.specs.Runs.{Kept, at_first, at_end, Promised, Ran, RanBySchedule, RanIn}
+use Rattle.wf_program.specs.Runs.{Kept, Promised, Ran, RanBySchedule, RanIn}
 use Rattle.wf_program.specs.Inside.Ends.{EndedSo}
 
 -- a mode without a schedule
@@ -62,6 +61,7 @@ module _ (go_well : SubmissionsGoWell) (D : Document) where
 pub lawful_at_first : (D : Document) → IsLawful D (begun D [])
 lawful_at_first D = record { start = refl; each = tt }
 
+-- the laws that are cited of a run
 pub record Laws : Type 0 where
   pub go_well : SubmissionsGoWell
   pub plain_runs : PlainRunsAsPlanned
@@ -77,8 +77,8 @@ promise laws D h lawful = record {
 }
 
 module _ (laws : Laws) (D : Document) (differ : NamesDiffer D.workflows) where
-  ran : (h g : Story) (before after : Count) (full : List (List ℕ)) → h ≡ begun D [] → GoesOn D h g → Swept D h before g after full → Ran D g before after full
-  ran h g before after full new on swept =
+  ran : (h g : Story) (full : List (List ℕ)) → h ≡ begun D [] → GoesOn D h g → Swept D h g full → Ran D g full
+  ran h g full new on swept =
       let all : with_submissions h D.workflows ≡ begun D D.workflows = ap (λ k. with_submissions k D.workflows) new ∙ all_submitted laws.go_well D D.workflows differ in
       let begins : Extends g (begun D D.workflows) = subst (λ k. Extends g k) all swept.later in
       let count : entries_in (begun D D.workflows) ≡ length D.workflows = length-map D.workflows submission in
@@ -87,84 +87,55 @@ module _ (laws : Laws) (D : Document) (differ : NamesDiffer D.workflows) where
       record {
         promised = promise laws D g lawful;
         begins = begins;
-        refused = swept.refused;
-        rounds = swept.rounds;
-        faults = swept.faults;
-        ran = subst (λ k. RunRan D k swept.rounds swept.faults g) all swept.ran;
-        counted = swept.counted;
         paced = laws.go_well.paced D g begins paced;
         over = swept.over;
         plain = laws.plain_runs D g full differ lawful begins swept.over.quiet swept.over.fulls;
       }
-
--- sixteen in a row, of a store that had none
-lost_by : (before : ℕ) (k : Kept) → SomeCalls (at_first before) (at_end k) → k.row ≡ most_faults → before + most_faults ≤ k.faults
-lost_by before k some is = let r = some.1.risen in let q = some.1.in_row in omega (arith, r, q, is)
-
--- a new store
-module _ {O : Type 0} where
-  pub at_new : (faults : O → ℕ) (s : Stored Content O) → s.row ≡ 0 → count_of faults s ≡ at_first (faults s.outage)
-  at_new faults s none = ap (λ (n : ℕ). let c : Count = record { faults = faults s.outage; row = n } in c) none
-
-  pub unlost_new : (s k : Stored Content O) → s.row ≡ 0 → (r : Result Unit RunEnd) → (r ≢ Err StoreFault → s.row < most_faults → k.row < most_faults) → r ≢ Err StoreFault → k.row < most_faults
-  unlost_new s k none r unlost n = unlost n (omega (arith, none))
 
 -- by rounds alone
 module _ (laws : Laws) (D : Read) (h g : Story) (new : h ≡ begun (law_of D) []) (differ : NamesDiffer (law_of D).workflows) (on : GoesOn (law_of D) h g) where
   first : IsLawful (law_of D) h
   first = subst (IsLawful (law_of D)) (sym new) (lawful_at_first (law_of D))
 
-  promised : Promised (law_of D) g
-  promised = promise laws (law_of D) g (on.lawful first)
-
   begun_by : with_submissions h (law_of D).workflows ≡ begun (law_of D) (law_of D).workflows
   begun_by = ap (λ k. with_submissions k (law_of D).workflows) new ∙ all_submitted laws.go_well (law_of D) (law_of D).workflows differ
 
   -- of a store whose last calls in a row that failed are so many, and whose outage has failed so many
-  module _ (row before after : ℕ) (some : SomeCalls (at_first before) record { faults = after; row = row }) where
+  module _ (row before after : ℕ) where
     abbrev kept : Kept
     kept = record { history = g; row = row; faults = after }
 
-    plain : (m : Mode) → Plain m → (full : List (List ℕ)) → Ran (law_of D) g (at_first before) (at_end kept) full → RanIn m before D kept full
+    plain : (m : Mode) → Plain m → (full : List (List ℕ)) → Ran (law_of D) g full → RanIn m before D kept full
     plain mode.Run p full r = r
     plain mode.Check p full r = r
     plain mode.Generate p full r = r
     plain mode.Simulate p full r = absurd p
 
-    pub swept_so : (m : Mode) → Plain m → (r : Result Unit RunEnd) → (IsLawful (law_of D) h → SweepGives (law_of D) h (at_first before) r g (at_end kept)) → (r ≡ Err StoreFault → row ≡ most_faults) → (r ≢ Err StoreFault → row < most_faults) → EndedSo m before D kept r
-    swept_so m p (Ok x) swept fault unlost = (plain m p [] (ran laws (law_of D) differ h g (at_first before) (at_end kept) [] new on (swept first)), unlost (λ e. absurd cc))
-    swept_so m p (Err (TooLarge full)) swept fault unlost = let s = swept first in (plain m p full (ran laws (law_of D) differ h g (at_first before) (at_end kept) full new on s.0), s.1, unlost (λ e. absurd cc))
-    swept_so m p (Err StoreFault) swept fault unlost = (promised, fault refl, lost_by before kept some (fault refl))
-    swept_so m p (Err Memory) swept fault unlost = (promised, unlost (λ e. absurd cc))
+    pub swept_so : (m : Mode) → Plain m → (r : Result Unit RunEnd) → (IsLawful (law_of D) h → SweepGives (law_of D) h r g) → (r ≡ Err StoreFault → row ≡ most_faults) → EndedSo m before D kept r
+    swept_so m p (Ok x) swept fault = plain m p [] (ran laws (law_of D) differ h g [] new on (swept first))
+    swept_so m p (Err (TooLarge full)) swept fault = let s = swept first in (plain m p full (ran laws (law_of D) differ h g full new on s.0), s.1)
+    swept_so m p (Err StoreFault) swept fault = (promise laws (law_of D) g (on.lawful first), fault refl)
+    swept_so m p (Err Memory) swept fault = promise laws (law_of D) g (on.lawful first)
 
-    by_schedule : (full : List (List ℕ)) → Simulated (law_of D) D.schedule h (at_first before) g (at_end kept) full → RanBySchedule D g (at_first before) (at_end kept) full
+    by_schedule : (full : List (List ℕ)) → Simulated (law_of D) D.schedule h before g after full → RanBySchedule D g before after full
     by_schedule full s =
         let lawful : IsLawful (law_of D) g = on.lawful first in
-        let f : Followed (law_of D) D.schedule (begun (law_of D) (law_of D).workflows) s.submitted s.end s.ended = subst (λ k. Followed (law_of D) D.schedule k s.submitted s.end s.ended) begun_by s.followed in
+        let f : Followed (law_of D) D.schedule (begun (law_of D) (law_of D).workflows) before s.end after = subst (λ k. Followed (law_of D) D.schedule k before s.end after) begun_by s.followed in
         let played = laws.plays.goes_on (law_of D) (stage (begun (law_of D) (law_of D).workflows) (hands_of D.schedule)) (stage s.end f.hands) (steps_of D.schedule) f.notes f.played in
         let begins : Extends g (begun (law_of D) (law_of D).workflows) = extends_later g s.end (begun (law_of D) (law_of D).workflows) s.later played in
         record {
-          promised = promised;
+          promised = promise laws (law_of D) g lawful;
           begins = begins;
-          refused = s.refused;
-          submitted = s.submitted;
-          submits = s.submits;
           end = s.end;
-          ended = s.ended;
           followed = f;
-          again = s.again;
-          rounds = s.rounds;
-          faults = s.faults;
-          ran = s.ran;
-          counted = s.counted;
           later = s.later;
           paced = s.paced;
           over = s.over;
           plain = laws.plain_runs (law_of D) g full differ lawful begins s.over.quiet s.over.fulls;
         }
 
-    pub simulated_so : (r : Result Unit RunEnd) → SimulationGives (law_of D) D.schedule h (at_first before) r g (at_end kept) → (r ≡ Err StoreFault → row ≡ most_faults) → (r ≢ Err StoreFault → row < most_faults) → EndedSo mode.Simulate before D kept r
-    simulated_so (Ok x) gives fault unlost = (by_schedule [] gives, unlost (λ e. absurd cc))
-    simulated_so (Err (TooLarge full)) gives fault unlost = (by_schedule full gives.0, gives.1, unlost (λ e. absurd cc))
-    simulated_so (Err StoreFault) gives fault unlost = (promised, fault refl, lost_by before kept some (fault refl))
-    simulated_so (Err Memory) gives fault unlost = (promised, unlost (λ e. absurd cc))
+    pub simulated_so : (r : Result Unit RunEnd) → SimulationGives (law_of D) D.schedule h before r g after → (r ≡ Err StoreFault → row ≡ most_faults) → EndedSo mode.Simulate before D kept r
+    simulated_so (Ok x) gives fault = by_schedule [] gives
+    simulated_so (Err (TooLarge full)) gives fault = (by_schedule full gives.0, gives.1)
+    simulated_so (Err StoreFault) gives fault = (promise laws (law_of D) g (on.lawful first), fault refl)
+    simulated_so (Err Memory) gives fault = promise laws (law_of D) g (on.lawful first)

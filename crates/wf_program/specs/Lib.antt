@@ -11,6 +11,5 @@ pub use Rattle.wf_bundle.specs.Documents
 pub use Rattle.run_texts.specs.RunTexts
 pub use Rattle.law.specs.Once
 pub use Rattle.law.specs.States
-pub use Rattle.sim_schedule.specs.Counting
 pub use Rattle.sim_schedule.specs.Sweeping
 pub use Rattle.sim_schedule.specs.Simulating

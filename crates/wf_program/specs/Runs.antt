@@ -14,10 +14,9 @@ use Rattle.law.specs.Justified.{IsLawful}
 use Rattle.law.specs.Due.{IsPaced}
 use Rattle.law.specs.Once.{Once}
 use Rattle.law.specs.States.{IsAsSaid}
-use Rattle.next_step.specs.Rounds.{entries_in, RunRan}
+use Rattle.next_step.specs.Rounds.{entries_in}
 use Rattle.plain_laws.specs.PlainTrees.{PlainTrees}
 use Rattle.run_laws.specs.Submissions.{begun}
-use Rattle.sim_schedule.specs.Counting.{Count, Failed}
 use Rattle.sim_schedule.specs.Sweeping.{IsOver}
 use Rattle.sim_schedule.specs.Simulating.{Followed}
 use Rattle.run_texts.specs.declared.shown.Shown.{Shown}
@@ -66,14 +65,6 @@ pub record Run : Type 0 where
 abbrev pub run_of : List (List ℕ) → Edge → Edge → ℕ → Option Kept → Run
 run_of words source sink before store =
     record { words = words; source = source; sink = sink; faults_before = before; store = store }
-
--- how many calls of a new store have failed, whose outage has failed so many before
-abbrev pub at_first : ℕ → Count
-at_first before = record { faults = before; row = 0 }
-
--- and at the end of its run
-abbrev pub at_end : Kept → Count
-at_end k = record { faults = k.faults; row = k.row }
 
 -- a call failed in this run
 abbrev pub SomeFailed : Edge → Type 0
@@ -161,39 +152,24 @@ pub record Promised (D : law.Document) (h : Story) : Type 0 where
   pub once : Once D h
   pub said : (k : Story) → Extends h k → IsAsSaid D k
 
--- The run of a document over a new store: its history begins with the submissions of the workflows in their order, was made from
--- there on by rounds, each of whose jobs ran to its end, and keeps the pace; nothing is due at its end, nor at a later tick, but in
--- these workflows, which are full. Each other workflow of the document that is plain has the tree that follows from the planned
--- outcomes alone. As many calls failed as the outage's faults rose by: those of the submissions, and those of the rounds.
-pub record Ran (D : law.Document) (h : Story) (before after : Count) (full : List (List ℕ)) : Type 0 where
+-- The run of a document over a new store: its history begins with the submissions of the workflows in their order, and keeps the
+-- pace; nothing is due at its end, nor at a later tick, but in these workflows, which are full. Each other workflow of the document
+-- that is plain has the tree that follows from the planned outcomes alone.
+pub record Ran (D : law.Document) (h : Story) (full : List (List ℕ)) : Type 0 where
   pub promised : Promised D h
   pub begins : Extends h (begun D D.workflows)
-  pub refused : ℕ
-  pub rounds : ℕ
-  pub faults : ℕ
-  pub ran : RunRan D (begun D D.workflows) rounds faults h
-  pub counted : Failed (refused + faults) before after
   pub paced : IsPaced D 0 h
   pub over : IsOver D h full
   pub plain : PlainTrees D h full
 
 -- The same of a run that follows the schedule of the document: behind the submissions each call is the one that its hand makes
--- next, answered as the store stands then or as the hand's lag has it. Behind the schedule it goes on by rounds, once each
--- workflow was found to be there, and keeps the pace. Each call that failed is counted, in each of these parts.
-pub record RanBySchedule (D : Document) (h : Story) (before after : Count) (full : List (List ℕ)) : Type 0 where
+-- next, answered as the store stands then or as the hand's lag has it, and no more calls failed than the outage failed in this
+-- run. Behind the schedule the history keeps the pace.
+pub record RanBySchedule (D : Document) (h : Story) (before after : ℕ) (full : List (List ℕ)) : Type 0 where
   pub promised : Promised (law_of D) h
   pub begins : Extends h (begun (law_of D) (law_of D).workflows)
-  pub refused : ℕ
-  pub submitted : Count
-  pub submits : Failed refused before submitted
   pub end : Story
-  pub ended : Count
-  pub followed : Followed (law_of D) D.schedule (begun (law_of D) (law_of D).workflows) submitted end ended
-  pub again : ℕ
-  pub rounds : ℕ
-  pub faults : ℕ
-  pub ran : RunRan (law_of D) end rounds faults h
-  pub counted : Failed (again + faults) ended after
+  pub followed : Followed (law_of D) D.schedule (begun (law_of D) (law_of D).workflows) before end after
   pub later : Extends h end
   pub paced : IsPaced (law_of D) (entries_in end) h
   pub over : IsOver (law_of D) h full
@@ -201,25 +177,21 @@ pub record RanBySchedule (D : Document) (h : Story) (before after : Count) (full
 
 -- what is said of a run in a mode, whose outage had failed so many calls before
 abbrev pub RanIn : Mode → ℕ → Document → Kept → List (List ℕ) → Type 0
-RanIn mode.Simulate before D k full = RanBySchedule D k.history (at_first before) (at_end k) full
-RanIn _ before D k full = Ran (law_of D) k.history (at_first before) (at_end k) full
-
--- fewer than sixteen of the last calls in a row failed
-abbrev pub IsUnlost : Kept → Type 0
-IsUnlost k = k.row < most_faults
+RanIn mode.Simulate before D k full = RanBySchedule D k.history before k.faults full
+RanIn _ before D k full = Ran (law_of D) k.history full
 
 -- how such a run ended, by its status
 abbrev pub RunEnds : Mode → ℕ → Document → Shown → Kept → Status → List ℕ → Type 0
 -- Nothing is due. The text shows the run.
-RunEnds m before D s k Done text = RanIn m before D k [] × IsUnlost k × (text ≡ run_text s.summary s.history k.history)
+RunEnds m before D s k Done text = RanIn m before D k [] × (text ≡ run_text s.summary s.history k.history)
 -- Nothing is due but in these workflows. The text shows the run, and names them.
-RunEnds m before D s k TooLarge text = (full : List (List ℕ)) × RanIn m before D k full × (full ≢ []) × IsUnlost k
+RunEnds m before D s k TooLarge text = (full : List (List ℕ)) × RanIn m before D k full × (full ≢ [])
     × (text ≡ run_text s.summary s.history k.history ++ too_large_text full)
--- Sixteen calls of the store in a row failed, in this run.
+-- Sixteen calls of the store in a row failed.
 RunEnds m before D s k StoreFault text =
-    Promised (law_of D) k.history × (k.row ≡ most_faults) × (before + most_faults ≤ k.faults) × (text ≡ fixed_text StoreFault)
+    Promised (law_of D) k.history × (k.row ≡ most_faults) × (text ≡ fixed_text StoreFault)
 -- Memory was wanting.
-RunEnds m before D s k Memory text = Promised (law_of D) k.history × IsUnlost k × (text ≡ fixed_text Memory)
+RunEnds m before D s k Memory text = Promised (law_of D) k.history × (text ≡ fixed_text Memory)
 RunEnds m before D s k _ text = ⊥
 
 -- a store was made of the document that was to be run, and the run ended so
@@ -279,15 +251,13 @@ pub record IsUnfailed (edge : Edge) : Type 0 where
   pub none : NoneFailed edge
   pub shows : edge.faults_before < 2 ^ 64 - 1
 
--- no read and no write failed, and the outage failed no call of the store
-pub record NothingFailed (run : Run) : Type 0 where
+-- no read failed and no write did
+pub record NoTransferFailed (run : Run) : Type 0 where
   pub source : IsUnfailed run.source
   pub sink : IsUnfailed run.sink
-  pub outage : (k : Kept) → run.store ≡ Some k → k.faults ≡ run.faults_before
 
--- a status that speaks of no fault: 0, 2, 5, 6, 8, 9 or 10
-abbrev pub NamesNoFault : Status → Type 0
-NamesNoFault ReadFault = ⊥
-NamesNoFault WriteFault = ⊥
-NamesNoFault StoreFault = ⊥
-NamesNoFault status = Unit {0}
+-- a status that speaks of no read and no write that failed
+abbrev pub NamesNoFailedTransfer : Status → Type 0
+NamesNoFailedTransfer ReadFault = ⊥
+NamesNoFailedTransfer WriteFault = ⊥
+NamesNoFailedTransfer status = Unit {0}

@@ -69,7 +69,6 @@ fn run_over<O: Outage>(
 ) -> Result<(), RunEnd>
     requires sound { IsSound document.now }
     requires new { store.old.history ≡ begun (law_of document.now) [] }
-    requires unfailed { store.old.row ≡ 0 }
     ensures { EndedSo mode (O.faults store.old.outage) document.now (kept_of O.faults store.new) result }
 {
     submissions_go_well();

@@ -1,7 +1,7 @@
 //! The top call.
 
 ghost use Rattle.std.specs.Prelude.{◌≡◌, Some, None};
-ghost use Rattle.wf_program.specs.Runs.{edge, run_of, Ends, Did, NothingFailed, NamesNoFault};
+ghost use Rattle.wf_program.specs.Runs.{edge, run_of, Ends, Did, NoTransferFailed, NamesNoFailedTransfer};
 ghost use Rattle.wf_program.specs.Inside.Ends.{Wrote, kept_in, status_in, text_in};
 
 use crate::asked::{Asked, what_is_asked};
@@ -75,8 +75,8 @@ fn run_words<S: Source, K: Sink, O: Outage>(
 /// document first; `generate` writes the document of a number, or the summary of its run.
 ///
 /// The status says how the run ended; the text of each status but WriteFault is in the sink, and the store of a run is left
-/// in `ended`, or the outage where no store was made. Where no read, no write and no call of the store failed, the status is
-/// none of ReadFault, WriteFault and StoreFault. Over standard input and output, which tell no bytes, the clause speaks
+/// in `ended`, or the outage where no store was made. Where no read and no write failed, the status is neither ReadFault nor
+/// WriteFault. Over standard input and output, which tell no bytes, the clause speaks
 /// of words, faults and the store alone.
 pub fn argo<S: Source, K: Sink, O: Outage>(
     alloc: Global,
@@ -91,10 +91,10 @@ pub fn argo<S: Source, K: Sink, O: Outage>(
         (edge (K.holds sink.old) (K.holds sink.new) (K.faults sink.old) (K.faults sink.new))
         (O.faults outage) (kept_in O.faults ended.new.store)) result }
     ensures outage { ended.new.store ≡ None → ended.new.outage ≡ Some outage }
-    ensures complete { NothingFailed (run_of words.now
+    ensures complete { NoTransferFailed (run_of words.now
         (edge (S.left source.old) (S.left source.new) (S.faults source.old) (S.faults source.new))
         (edge (K.holds sink.old) (K.holds sink.new) (K.faults sink.old) (K.faults sink.new))
-        (O.faults outage) (kept_in O.faults ended.new.store)) → NamesNoFault result }
+        (O.faults outage) (kept_in O.faults ended.new.store)) → NamesNoFailedTransfer result }
 {
     run_words(alloc, words, source, sink, outage, ended)
 }

@@ -1,5 +1,5 @@
 -- The parts of a run, as the functions below the top call see them.
-use Rattle.std.specs.Prelude.{◌≡◌, ◌≢◌, ◌⊎◌, ℕ, ◌+◌, ◌≤◌, List, [], ◌∷◌, ◌++◌, true, false, Ok as Found, Err as Broken}
+use Rattle.std.specs.Prelude.{◌≡◌, ◌≢◌, ◌⊎◌, ℕ, List, [], ◌∷◌, ◌++◌, true, false, Ok as Found, Err as Broken}
 use Rattle.serde_json.specs.Data.{Data}
 use Rattle.std.specs.declared.option.Option.{Option}
 use Rattle.std.specs.declared.option.Option.TheVariants.{Some, None}
@@ -31,7 +31,7 @@ use Rattle.wf_program.specs.declared.status.Status.TheVariants.{Done, Memory, Wr
 use Rattle.wf_program.specs.declared.status.Status.TheVariants as status
 use Rattle.wf_program.specs.Statuses.{fixed_text}
 use Rattle.wf_program.specs.Answers.{IsDocument, Answers, valid_text, refused_text}
-use Rattle.wf_program.specs.Runs.{Edge, Kept, SomeFailed, NoneFailed, EndsBefore, IsToRun, shown, Promised, RanIn, IsUnlost, RunEnds}
+use Rattle.wf_program.specs.Runs.{Edge, Kept, SomeFailed, NoneFailed, EndsBefore, IsToRun, shown, Promised, RanIn, RunEnds}
 
 -- the status of an end whose text was made or is fixed
 abbrev pub status_in : Result Made Status → Status
@@ -115,11 +115,10 @@ AsksOfNumber order (Err status) = ⊥
 
 -- what a run in a mode has left of it
 abbrev pub EndedSo : Mode → ℕ → Document → Kept → Result Unit RunEnd → Type 0
-EndedSo m before D k (Ok _) = RanIn m before D k [] × IsUnlost k
-EndedSo m before D k (Err (end.TooLarge full)) = RanIn m before D k full × (full ≢ []) × IsUnlost k
-EndedSo m before D k (Err end.StoreFault) =
-    Promised (law_of D) k.history × (k.row ≡ most_faults) × (before + most_faults ≤ k.faults)
-EndedSo m before D k (Err end.Memory) = Promised (law_of D) k.history × IsUnlost k
+EndedSo m before D k (Ok _) = RanIn m before D k []
+EndedSo m before D k (Err (end.TooLarge full)) = RanIn m before D k full × (full ≢ [])
+EndedSo m before D k (Err end.StoreFault) = Promised (law_of D) k.history × (k.row ≡ most_faults)
+EndedSo m before D k (Err end.Memory) = Promised (law_of D) k.history
 
 -- without memory for a store there is none
 abbrev pub RunLeaves : Mode → ℕ → Document → Shown → Option Kept → Status → List ℕ → Type 0
